@@ -1,0 +1,1 @@
+// Bits of lent 64-bit words.

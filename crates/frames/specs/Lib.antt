@@ -1,0 +1,4 @@
+pub mod Areas
+pub mod Marks
+pub mod Tables
+pub mod Units

@@ -1,0 +1,29 @@
+-- Document 01, "The machine and its neighbours", the first table: what is allowed. Byte amounts are `mostBytes` of the regions text.
+use Prim.Native.Nat.{ℕ, _^_}
+
+abbrev pub mostFrames : ℕ
+mostFrames = 65536
+
+-- the first physical frame is at least 1, and the frame after the last at most 2^36
+abbrev pub leastBase : ℕ
+leastBase = 1
+
+abbrev pub mostEnd : ℕ
+mostEnd = 2 ^ 36
+
+abbrev pub mostOrder : ℕ
+mostOrder = 10
+
+abbrev pub mostAreas : ℕ
+mostAreas = 8
+
+-- page names are 1 to this
+abbrev pub mostName : ℕ
+mostName = 536870911
+
+-- grant alignment orders are 0 to this
+abbrev pub mostAlignment : ℕ
+mostAlignment = 16
+
+abbrev pub pageBytes : ℕ
+pageBytes = 4096

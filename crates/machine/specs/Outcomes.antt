@@ -1,0 +1,41 @@
+-- Document 01, "Numbers the clerk sees": what a call leaves, and its checks in the order written.
+use Prim.Native.Nat.{ℕ}
+use mathlib.Core.Bool.{Bool}
+use mathlib.Core.List.{List, [], _∷_}
+use Rattle.search.specs.Choice.{if_then_else_}
+use Rattle.answer.specs.declared.Answer.{Answer}
+use Rattle.answer.specs.Answers.{done, refused}
+use Rattle.frames.specs.Tables.{Tables, tables}
+use Rattle.machine.specs.declared.Machine.{Machine}
+use Rattle.machine.specs.declared.Returned.{Returned}
+
+-- the record that a call hands back, its answer, and the tables as it leaves them
+pub record Outcome : Type 0 where
+  pub machine : Machine
+  pub answer : Answer
+  pub left : Tables
+
+abbrev pub outcome : Machine → Answer → Tables → Outcome
+outcome m a t = record { machine = m; answer = a; left = t }
+
+-- what a method returned, with the three tables as it left them
+abbrev pub outcomeOf : Returned → List ℕ → List ℕ → List ℕ → Outcome
+outcomeOf r marks words bitmap = outcome (r .machine) (r .answer) (tables marks words bitmap)
+
+-- a check of a call: where it holds, the call is refused with that number
+pub record Check : Type 0 where
+  pub holds : Bool
+  pub number : ℕ
+
+infix 70 _⇒_
+abbrev pub _⇒_ : Bool → ℕ → Check
+holds ⇒ number = record { holds = holds; number = number }
+
+-- a refusal changes no table and no record
+abbrev pub refuse : Machine → Tables → ℕ → Outcome
+refuse m t number = outcome m (refused number) t
+
+-- the first check that holds refuses the call; it is done where none holds
+unfoldable pub checked : Machine → Tables → List Check → Outcome → Outcome
+checked m t [] o = o
+checked m t (c ∷ cs) o = if c .holds then refuse m t (c .number) else checked m t cs o

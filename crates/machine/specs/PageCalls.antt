@@ -1,0 +1,120 @@
+-- Document 01, "Page calls".
+use Prim.Native.Nat.{ℕ}
+use mathlib.Core.Bool.{Bool, not, _&&_, _||_}
+use mathlib.Core.List.{[], _∷_}
+use lib.Dec.{ltb, eqb}
+use Rattle.search.specs.Choice.{if_then_else_}
+use Rattle.search.specs.Search.{lowest}
+use Rattle.answer.specs.Answers.{done}
+use Rattle.frames.specs.declared.Place.{Place}
+use Rattle.frames.specs.Units.{place}
+use Rattle.frames.specs.Marks.{markOf, hasKind, isPageOf, free, movable, pinned, fixed}
+use Rattle.frames.specs.Tables.{Tables, markAt, wordAt, setPage}
+use Rattle.machine.specs.declared.Machine.{Machine}
+use Rattle.machine.specs.Limits.{mostName}
+use Rattle.machine.specs.Record.{frameAt, isOrdinary}
+use Rattle.machine.specs.Shape.{shapeWrong}
+use Rattle.machine.specs.Outcomes.{Outcome, outcome, _⇒_, checked}
+
+-- a place is one of the machine's: a search that finds nothing gives the place after the last
+abbrev pub isPlace : Machine → Place → Bool
+isPlace m p = ltb (p .0) (m .frames)
+
+abbrev pub lowestPlace : Machine → (Place → Bool) → Place
+lowestPlace m test = place (lowest (λ i. test (place i)) (m .frames))
+
+abbrev pub badName : ℕ → Bool
+badName name = eqb name 0 || ltb mostName name
+
+-- where a page stands: when its name stands twice, the lowest frame is meant
+unfoldable pub pageAt : Machine → Tables → ℕ → Place
+pageAt m t name = lowestPlace m (λ p. isPageOf name (markAt t p))
+
+abbrev pub isLive : Machine → Tables → ℕ → Bool
+isLive m t name = isPlace m (pageAt m t name)
+
+abbrev pub isFree : Tables → Place → Bool
+isFree t p = hasKind free (markAt t p)
+
+unfoldable pub freeOrdinary : Machine → Tables → Place → Bool
+freeOrdinary m t p = isFree t p && isOrdinary m p
+
+unfoldable pub freeInArea : Machine → Tables → Place → Bool
+freeInArea m t p = isFree t p && not (isOrdinary m p)
+
+-- the lowest free ordinary frame; a movable page with none left takes the lowest free area frame
+unfoldable pub putAt : ℕ → Machine → Tables → Place
+putAt kind m t =
+    let p = lowestPlace m (freeOrdinary m t) in
+    if isPlace m p || not (eqb kind movable) then p else lowestPlace m (freeInArea m t)
+
+-- put a page of a kind, movable or fixed
+unfoldable pub putPage : ℕ → Machine → ℕ → Tables → Outcome
+putPage kind m name t =
+    let p = putAt kind m t in
+    checked m t
+    (shapeWrong m t ⇒ 1 ∷
+    badName name ⇒ 2 ∷
+    isLive m t name ⇒ 4 ∷
+    not (isPlace m p) ⇒ 6 ∷
+    [])
+    (outcome m (done (frameAt m p .0) 0) (setPage t p (markOf name kind) 0))
+
+abbrev pub putMovable : Machine → ℕ → Tables → Outcome
+putMovable = putPage movable
+
+abbrev pub putFixed : Machine → ℕ → Tables → Outcome
+putFixed = putPage fixed
+
+-- the page's kind, where the name is live
+abbrev pub pageHas : ℕ → Machine → Tables → ℕ → Bool
+pageHas kind m t name = hasKind kind (markAt t (pageAt m t name))
+
+unfoldable pub dropPage : Machine → ℕ → Tables → Outcome
+dropPage m name t =
+    checked m t
+    (shapeWrong m t ⇒ 1 ∷
+    badName name ⇒ 2 ∷
+    not (isLive m t name) ⇒ 3 ∷
+    pageHas pinned m t name ⇒ 5 ∷
+    [])
+    (outcome m (done 0 0) (setPage t (pageAt m t name) 0 0))
+
+-- a live page's kind changes, where it was the one asked
+unfoldable pub changeKind : ℕ → ℕ → Machine → ℕ → Tables → Outcome
+changeKind from to m name t =
+    let p = pageAt m t name in
+    checked m t
+    (shapeWrong m t ⇒ 1 ∷
+    badName name ⇒ 2 ∷
+    not (isLive m t name) ⇒ 3 ∷
+    not (pageHas from m t name) ⇒ 5 ∷
+    [])
+    (outcome m (done 0 0) (setPage t p (markOf name to) (wordAt t p)))
+
+abbrev pub pinPage : Machine → ℕ → Tables → Outcome
+pinPage = changeKind movable pinned
+
+abbrev pub unpinPage : Machine → ℕ → Tables → Outcome
+unpinPage = changeKind pinned movable
+
+unfoldable pub storePage : Machine → ℕ → ℕ → Tables → Outcome
+storePage m name word t =
+    let p = pageAt m t name in
+    checked m t
+    (shapeWrong m t ⇒ 1 ∷
+    badName name ⇒ 2 ∷
+    not (isLive m t name) ⇒ 3 ∷
+    pageHas pinned m t name ⇒ 5 ∷
+    [])
+    (outcome m (done 0 0) (setPage t p (markAt t p) word))
+
+unfoldable pub readPage : Machine → ℕ → Tables → Outcome
+readPage m name t =
+    let p = pageAt m t name in
+    checked m t
+    (shapeWrong m t ⇒ 1 ∷
+    badName name ⇒ 2 ∷
+    not (isLive m t name) ⇒ 3 ∷
+    [])
+    (outcome m (done (frameAt m p .0) (wordAt t p)) t)

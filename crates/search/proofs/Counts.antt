@@ -1,0 +1,76 @@
+-- The laws of "how many" in a range, for every test and width. Assumes nothing.
+--     many-none, many-pass, many-fail   an empty range; the first number of a range passes; it fails
+--     many-next                         the range grows by one at its end
+--     many-split                        a range in two parts
+--     many-cong                         it goes by the test's values in the range alone
+--     many-le, many-some, many-zero     at most the width; at least one where one passes; none where none does
+use Prim.Native.Nat.{ℕ, zero, suc, _+_, _≤_, _<_}
+use native.Mathlib.Nat.{add-zero, zero-add, add-suc, suc-add}
+use native.Mathlib.Numerals.{add-one}
+use native.Mathlib.Omega.{arith}
+use mathlib.Core.Path.{_≡_, refl, sym, ap, subst, _∙_}
+use mathlib.Core.Bool.{Bool, true, false}
+use Rattle.search.specs.Choice.{if_then_else_}
+use Rattle.search.specs.Search.{howMany}
+use Rattle.search.proofs.Bools.{by-cases, below-or-not, clash}
+
+module _ (p : ℕ → Bool) where
+  pub many-none : (i : ℕ) → howMany p i 0 ≡ 0
+  unfolding howMany
+  many-none i = refl
+
+  pub many-pass : (i d : ℕ) → p i ≡ true → howMany p i (suc d) ≡ suc (howMany p (suc i) d)
+  unfolding howMany
+  many-pass i d e = rw (e, howMany)
+
+  pub many-fail : (i d : ℕ) → p i ≡ false → howMany p i (suc d) ≡ howMany p (suc i) d
+  unfolding howMany
+  many-fail i d e = rw (e, howMany)
+
+  -- one number as a range: 1 where it passes, else 0
+  abbrev pub one : ℕ → ℕ
+  one i = if p i then 1 else 0
+
+  pub many-suc : (i d : ℕ) → howMany p i (suc d) ≡ one i + howMany p (suc i) d
+  many-suc i d =
+      by-cases (p i) (λ e. many-pass i d e ∙ rw e (omega arith)) (λ e. many-fail i d e ∙ rw e (omega arith))
+
+  pub many-split : (i d e : ℕ) → howMany p i (d + e) ≡ howMany p i d + howMany p (i + d) e
+  many-split i zero e = rw (zero-add, many-none, add-zero, zero-add)
+  many-split i (suc d) e =
+      let step : howMany p (suc i) (d + e) ≡ howMany p (suc i) d + howMany p (suc i + d) e = many-split (suc i) d e in
+      let same : suc i + d ≡ i + suc d = omega arith in
+      rw (suc-add, many-suc i (d + e), many-suc i d, step, same) (omega arith)
+
+  pub many-one : (i : ℕ) → howMany p i 1 ≡ one i
+  many-one i = many-suc i 0 ∙ rw many-none (omega arith)
+
+  pub many-next : (i d : ℕ) → howMany p i (d + 1) ≡ howMany p i d + one (i + d)
+  many-next i d = many-split i d 1 ∙ ap (λ (x : ℕ). howMany p i d + x) (many-one (i + d))
+
+  pub many-le : (i d : ℕ) → howMany p i d ≤ d
+  many-le i zero = rw many-none (omega arith)
+  many-le i (suc d) =
+      let h = many-le (suc i) d in
+      by-cases (p i) (λ e. rw (many-pass i d e) (omega arith)) (λ e. rw (many-fail i d e) (omega arith))
+
+  pub many-zero : (i d : ℕ) → ((k : ℕ) → i ≤ k → k < i + d → p k ≡ false) → howMany p i d ≡ 0
+  many-zero i zero none = many-none i
+  many-zero i (suc d) none =
+      many-fail i d (none i (omega arith) (omega arith)) ∙ many-zero (suc i) d (λ k a b. none k (omega arith) (omega arith))
+
+  -- where some number of the range is counted, one passes
+  pub many-some : (i d k : ℕ) → i ≤ k → k < i + d → p k ≡ true → 0 < howMany p i d
+  many-some i zero k a b e = absurd (omega arith)
+  many-some i (suc d) k a b e =
+      by-cases (p i) (λ t. rw (many-pass i d t) (omega arith))
+      (λ f.
+      rw (many-fail i d f)
+      (many-some (suc i) d k (below-or-not i k (λ h. h) (λ h. clash (p k) e (subst (λ (x : ℕ). p x ≡ false) (omega arith) f))) (omega arith) e))
+
+pub many-cong : (p q : ℕ → Bool) (i d : ℕ) → ((k : ℕ) → i ≤ k → k < i + d → p k ≡ q k) → howMany p i d ≡ howMany q i d
+many-cong p q i zero same = many-none p i ∙ sym (many-none q i)
+many-cong p q i (suc d) same =
+    let here : p i ≡ q i = same i (omega arith) (omega arith) in
+    let rest : howMany p (suc i) d ≡ howMany q (suc i) d = many-cong p q (suc i) d (λ k a b. same k (omega arith) (omega arith)) in
+    rw (many-suc p i d, many-suc q i d, rest, here)

@@ -1,0 +1,5 @@
+pub mod Bools
+pub mod Counts
+pub mod Highest
+pub mod Lowest
+pub mod Ranges

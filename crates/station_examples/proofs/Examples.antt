@@ -1,0 +1,21 @@
+-- Document 01's starred examples hold of the definitions: the checker computes the whole list. Assumes nothing.
+use mathlib.Core.Bool.{true}
+use mathlib.Core.Path.{_≡_, refl}
+use Rattle.search.specs.Search.{lowestFrom, lowest, some, every, howMany}
+use Rattle.bitmap.specs.Bits.{isClear, changeBit, changeBits}
+use Rattle.frames.specs.Areas.{inAreas, firstWord}
+use Rattle.frames.specs.Tables.{fill}
+use Rattle.regions.specs.Amounts.{isPowerOfTwo}
+use Rattle.regions.specs.Text.{regionsFrom, regions}
+use Rattle.machine.specs.Shape.{memoryRight, lengthsRight, areaRight, areaFits, shapeRight}
+use Rattle.machine.specs.Outcomes.{checked}
+use Rattle.machine.specs.PageCalls.{pageAt, freeOrdinary, freeInArea, putAt, putPage, dropPage, changeKind}
+use Rattle.machine.specs.DeviceCalls.{isCandidate, isGrantable, chosen, movers, targets, movePage, moveOut, takeRun, grant, laterFrames, freeRun, release}
+use Rattle.machine.specs.Declare.{alignmentFor, baseFor, sizeFor, limitFor, isVacant, declare}
+use Rattle.machine.specs.Boot.{declareAll, bootRecord, boot}
+use Rattle.station_examples.specs.Claim.{isRight, allRight}
+use Rattle.station_examples.specs.Examples.{examples}
+
+pub examples-hold : allRight examples ≡ true
+unfolding isRight allRight lowestFrom lowest some every howMany isClear changeBit changeBits inAreas firstWord fill isPowerOfTwo regionsFrom regions memoryRight lengthsRight areaRight areaFits shapeRight checked pageAt freeOrdinary freeInArea putAt putPage dropPage changeKind isCandidate isGrantable chosen movers targets movePage moveOut takeRun grant laterFrames freeRun release alignmentFor baseFor sizeFor limitFor isVacant declare declareAll bootRecord boot
+examples-hold = refl
