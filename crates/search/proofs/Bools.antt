@@ -34,6 +34,13 @@ pub and-false-right : (a : Bool) → (a && false) ≡ false
 and-false-right true = refl
 and-false-right false = refl
 
+-- a part that fails fails the whole
+pub and-left-false : (a b : Bool) → a ≡ false → (a && b) ≡ false
+and-left-false a b e = rw e
+
+pub and-right-false : (a b : Bool) → b ≡ false → (a && b) ≡ false
+and-right-false a b e = rw e (and-false-right a)
+
 pub or-left : (a b : Bool) → (a || b) ≡ false → a ≡ false
 or-left true b e = e
 or-left false b e = refl
@@ -48,6 +55,13 @@ or-neither a b p q = rw (p, q)
 pub or-true-right : (a : Bool) → (a || true) ≡ true
 or-true-right true = refl
 or-true-right false = refl
+
+-- a part that passes is enough
+pub or-left-true : (a b : Bool) → a ≡ true → (a || b) ≡ true
+or-left-true a b e = rw e
+
+pub or-right-true : (a b : Bool) → b ≡ true → (a || b) ≡ true
+or-right-true a b e = rw e (or-true-right a)
 
 pub not-flips : (a : Bool) {b : Bool} → not a ≡ b → a ≡ not b
 not-flips true e = rw (← e) refl

@@ -4,6 +4,7 @@
 --     some-next, every-next            the range grows by one at its end, as a loop does that has looked at d numbers from i on
 --     some-cong, every-cong            they go by the test's values in the range alone
 --     every-part                       what each number of a range passes, each of a part of it does
+--     every-up, every-done, every-stops    a loop from 0: one more passes; it has come to the end; one fails
 use Prim.Native.Nat.{ℕ, zero, suc, _+_, _≤_, _<_}
 use native.Mathlib.Omega.{arith}
 use mathlib.Core.Path.{_≡_, refl, sym, ap, subst, _∙_}
@@ -98,3 +99,16 @@ module _ (p : ℕ → Bool) (i : ℕ) where
       (λ f.
       let w = every-no p i d f in
       every-miss p i (d + 1) (w .at) (w .low) (omega (arith, w .high)) (not-flips (p (w .at)) (w .hit)) ∙ rw f)
+
+-- ---- a loop that counts k up from 0, and has found that each number below k passes
+module _ (p : ℕ → Bool) where
+  pub every-up : (k : ℕ) → every p 0 k ≡ true → p k ≡ true → every p 0 (k + 1) ≡ true
+  every-up k t e =
+      all-every p 0 (k + 1)
+      (λ j a b. below-or-not j k (λ h. every-all p 0 k t j a (omega arith)) (λ h. subst (λ (x : ℕ). p x ≡ true) (omega arith) e))
+
+  pub every-done : (k n : ℕ) → n ≤ k → every p 0 k ≡ true → every p 0 n ≡ true
+  every-done k n h t = every-part p 0 k 0 n (omega arith) (omega arith) t
+
+  pub every-stops : (k n : ℕ) → k < n → p k ≡ false → every p 0 n ≡ false
+  every-stops k n h f = every-miss p 0 n k (omega arith) (omega arith) f
