@@ -1,0 +1,4 @@
+pub mod Changes
+pub mod Each
+pub mod Runs
+pub mod Word
