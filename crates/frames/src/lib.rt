@@ -1,4 +1,19 @@
 // Page frames, the areas that are reserved among them, and the marks that say what each frame holds.
+mod areas;
+mod fills;
+mod marks;
+
+pub use areas::first_word;
+pub use areas::is_ordinary;
+pub use fills::fill_marks;
+pub use fills::fill_words;
+pub use marks::are_later;
+pub use marks::can_leave;
+pub use marks::count_movable;
+pub use marks::find_free;
+pub use marks::find_free_ordinary;
+pub use marks::find_page;
+pub use marks::has_free_ordinary;
 
 // A physical frame number.
 pub struct Frame(pub u64);

@@ -1,0 +1,159 @@
+-- What the code's comparisons say of an area. Assumes nothing.
+use Prim.Native.Nat.{ℕ, zero, suc, _+_, _-_, _*_, _/_, _%_, _^_, _≤_, _<_, min}
+use native.Mathlib.Omega.{arith}
+use native.Mathlib.Nat.{div-add-mod', mod-lt, mul-add-div-right, add-div-left, div-eq-of-lt, div-lt-self, one-mul}
+use native.Mathlib.Numerals.{add-one}
+use mathlib.Core.Path.{_≡_, refl, sym, ap, _∙_}
+use mathlib.Core.Bool.{true, false}
+use mathlib.Core.List.{List}
+use lib.Dec.{leb, ltb}
+use lib.ListN.{length, List·getD-eq-default}
+use lib.Pow.{shl-exact}
+use borrow.Author.Tests.{lt-ltb, le-ltb, le-leb, lt-leb, leb-true, ltb-true}
+use Rattle.search.specs.Search.{lowest}
+use Rattle.search.proofs.Bools.{below-or-not, clash, and-left, and-right, and-both, and-false-right}
+use Rattle.search.proofs.Lowest.{found-passes, found-low}
+use Rattle.search.proofs.Ranges.{some-hit, none-some, some-no}
+use Rattle.frames.specs.declared.Area.{Area}
+use Rattle.frames.specs.declared.Frame.{Frame}
+use Rattle.frames.specs.Units.{frame}
+use Rattle.frames.specs.Runs.{holderOf, PastArea}
+use Rattle.frames.specs.Areas.{ceiling, holdsFrame, endOf, areaIn, noArea, inAreas, wordCount, firstWord}
+
+-- ---- one area
+module _ (a : Area) (f : ℕ) where
+  pub holds-yes : a .base .0 ≤ f → f < endOf a → holdsFrame a (frame f) ≡ true
+  holds-yes h k = and-both (leb (a .base .0) f) (ltb f (endOf a)) (le-leb (a .base .0) f h) (lt-ltb f (endOf a) k)
+
+  pub holds-below : f < a .base .0 → holdsFrame a (frame f) ≡ false
+  holds-below h = rw (lt-leb (a .base .0) f h)
+
+  pub holds-above : endOf a ≤ f → holdsFrame a (frame f) ≡ false
+  holds-above h = rw (le-ltb f (endOf a) h) (and-false-right (leb (a .base .0) f))
+
+  pub holds-first : holdsFrame a (frame f) ≡ true → a .base .0 ≤ f
+  holds-first e = leb-true (a .base .0) f (and-left (leb (a .base .0) f) (ltb f (endOf a)) e)
+
+  pub holds-last : holdsFrame a (frame f) ≡ true → f < endOf a
+  holds-last e = ltb-true f (endOf a) (and-right (leb (a .base .0) f) (ltb f (endOf a)) e)
+
+  pub holds-not : a .base .0 ≤ f → holdsFrame a (frame f) ≡ false → endOf a ≤ f
+  holds-not h e = below-or-not f (endOf a) (λ w. clash (holdsFrame a (frame f)) (holds-yes h w) e) (λ w. w)
+
+  -- the frame is past the first of the area, and a comparison says whether it is past the last
+  pub holds-by : (x y : ℕ) → a .base .0 ≤ f → (x < y → f < endOf a) → (y ≤ x → endOf a ≤ f) → ltb x y ≡ holdsFrame a (frame f)
+  holds-by x y h yes-case no-case =
+      below-or-not x y (λ w. lt-ltb x y w ∙ sym (holds-yes h (yes-case w))) (λ w. le-ltb x y w ∙ sym (holds-above (no-case w)))
+
+-- a frame that the area does not hold, and a later one that is not past the area's first either
+pub still-out : (a : Area) (base at p : ℕ) → at ≤ p → (at < a .base .0 - base → p < a .base .0 - base) → holdsFrame a (frame (base + at)) ≡ false → holdsFrame a (frame (base + p)) ≡ false
+still-out a base at p h near e =
+    below-or-not at (a .base .0 - base) (λ w. holds-below a (base + p) (omega (arith, near w)))
+    (λ w. holds-above a (base + p) (omega (arith, holds-not a (base + at) (omega arith) e)))
+
+-- ---- the first n areas of a list
+module _ (areas : List Area) (n : ℕ) (f : Frame) where
+  pub in-area : (i : ℕ) → i < n → holdsFrame (areaIn areas i) f ≡ true → inAreas areas n f ≡ true
+  unfolding inAreas
+  in-area i h e = some-hit (λ i. holdsFrame (areaIn areas i) f) 0 n i (omega arith) (omega arith) e
+
+  pub out-of-area : inAreas areas n f ≡ false → (i : ℕ) → i < n → holdsFrame (areaIn areas i) f ≡ false
+  unfolding inAreas
+  out-of-area e i h = some-no (λ i. holdsFrame (areaIn areas i) f) 0 n e i (omega arith) (omega arith)
+
+  -- past the eighth there is none
+  pub out-of-areas : length areas ≡ 8 → ((i : ℕ) → i < min n 8 → holdsFrame (areaIn areas i) f ≡ false) → inAreas areas n f ≡ false
+  unfolding inAreas
+  out-of-areas e none =
+      none-some (λ i. holdsFrame (areaIn areas i) f) 0 n
+      (λ i a b.
+      below-or-not i 8 (λ h. none i (omega arith))
+      (λ h. rw (List·getD-eq-default areas noArea {n = i} (omega arith)) (holds-above noArea (f .0) (omega arith))))
+
+  -- so a search of the areas tells whether one holds the frame
+  pub found-area : lowest (holderOf areas f) (min n 8) < min n 8 → inAreas areas n f ≡ true
+  found-area h = in-area (lowest (holderOf areas f) (min n 8)) (omega arith) (found-passes (holderOf areas f) (min n 8) h)
+
+  pub no-area : length areas ≡ 8 → min n 8 ≤ lowest (holderOf areas f) (min n 8) → inAreas areas n f ≡ false
+  no-area e h = out-of-areas e (λ i l. found-low (holderOf areas f) (min n 8) i (omega arith))
+
+-- an area that holds a place holds each from there up to its end
+pub past-held : (base : Frame) (areas : List Area) (n at len i r : ℕ) → i < n → at < len → holderOf areas (frame (base .0 + at)) i ≡ true → r ≡ min (endOf (areaIn areas i) - base .0) len → PastArea base areas n at len r
+past-held base areas n at len i r h l e q =
+    let a = areaIn areas i in
+    let first = holds-first a (base .0 + at) e in
+    let last = holds-last a (base .0 + at) e in
+    record {
+      low = omega arith;
+      high = omega arith;
+      held = λ k u v. in-area areas n (frame (base .0 + k)) i h (holds-yes a (base .0 + k) (omega arith) (omega arith));
+      clear = λ z. absurd (omega arith);
+    }
+
+-- ---- rounding up
+pub ceiling-exact : (x d : ℕ) → 0 < d → x % d ≡ 0 → ceiling x d ≡ x / d
+ceiling-exact x d h e =
+    let q = x / d in
+    let s : x + (d - 1) ≡ q * d + (d - 1) = omega (arith, div-add-mod' x d) in
+    ap (λ (y : ℕ). y / d) s ∙ mul-add-div-right h q (d - 1) ∙ ap (λ (y : ℕ). q + y) (div-eq-of-lt (omega arith)) ∙ omega arith
+
+pub ceiling-more : (x d : ℕ) → 0 < d → (x % d ≡ 0 → ⊥) → ceiling x d ≡ x / d + 1
+ceiling-more x d h e =
+    let q = x / d in
+    let r = x % d in
+    let s : x + (d - 1) ≡ q * d + (d + (r - 1)) = omega (arith, div-add-mod' x d) in
+    let t : (r - 1) / d ≡ 0 = div-eq-of-lt (omega (arith, mod-lt x h)) in
+    ap (λ (y : ℕ). y / d) s ∙ mul-add-div-right h q (d + (r - 1)) ∙ omega (arith, add-div-left (r - 1) h)
+
+-- fewer than d, but not none, round up to 1
+pub ceiling-one : (x d : ℕ) → 0 < x → x < d → ceiling x d ≡ 1
+ceiling-one x d a b =
+    let s : x + (d - 1) ≡ d + (x - 1) = omega arith in
+    let h : 0 < d = omega arith in
+    let t : (x - 1) / d ≡ 0 = div-eq-of-lt (omega arith) in
+    ap (λ (y : ℕ). y / d) s ∙ omega (arith, add-div-left (x - 1) h)
+
+pub ceiling-zero : (d : ℕ) → 0 < d → ceiling 0 d ≡ 0
+ceiling-zero d h = div-eq-of-lt (omega arith)
+
+-- a quotient that leaves a rest is below the number
+pub div-below : (x d : ℕ) → 0 < d → x < 2 ^ 64 → (x % d ≡ 0 → ⊥) → x / d + 1 < 2 ^ 64
+div-below x d h b e =
+    let positive : 0 < x = omega (arith, div-add-mod' x d) in
+    let two : 1 < d = omega (arith, mod-lt x h) in
+    omega (arith, div-lt-self positive two)
+
+-- ---- powers of two
+pub one-shl : (k : ℕ) → k < 64 → 1 * 2 ^ k % 2 ^ 64 ≡ 2 ^ k
+one-shl k h = shl-exact 1 k 64 (omega arith) (omega arith) ∙ one-mul (2 ^ k)
+
+-- ---- the first bitmap word of an area
+module _ (areas : List Area) where
+  pub first-word-zero : firstWord areas 0 ≡ 0
+  unfolding firstWord
+  first-word-zero = refl
+
+  pub first-word-suc : (k : ℕ) → firstWord areas (suc k) ≡ firstWord areas k + wordCount (areaIn areas k)
+  unfolding firstWord
+  first-word-suc k = refl
+
+  pub first-word-next : (k : ℕ) → firstWord areas (k + 1) ≡ firstWord areas k + wordCount (areaIn areas k)
+  first-word-next k = rw add-one (first-word-suc k)
+
+  -- past the eighth there is none, and so no word
+  first-word-past : length areas ≡ 8 → (d : ℕ) → firstWord areas (8 + d) ≡ firstWord areas 8
+  first-word-past e zero = refl
+  first-word-past e (suc d) =
+      let s : 8 + suc d ≡ suc (8 + d) = omega arith in
+      let none : areaIn areas (8 + d) ≡ noArea = List·getD-eq-default areas noArea (omega arith) in
+      ap (firstWord areas) s ∙
+      first-word-suc (8 + d) ∙
+      ap (λ (a : Area). firstWord areas (8 + d) + wordCount a) none ∙ omega (arith, first-word-past e d)
+
+  pub first-word-clip : length areas ≡ 8 → (i k : ℕ) → k ≡ min i 8 → firstWord areas k ≡ firstWord areas i
+  first-word-clip e i k h =
+      below-or-not i 8 (λ w. ap (firstWord areas) (omega arith))
+      (λ w.
+      let a : k ≡ 8 = omega arith in
+      let b : 8 + (i - 8) ≡ i = omega arith in
+      ap (firstWord areas) a ∙ sym (first-word-past e (i - 8)) ∙ ap (firstWord areas) b)

@@ -1,0 +1,5 @@
+pub mod AreaFacts
+pub mod FillFacts
+pub mod MarkFacts
+pub mod RunFacts
+pub mod ScanFacts

@@ -1,0 +1,82 @@
+-- `frames::areas::next_area` meets its contract: no first place of an area passed lies between `at` and `stop`. Assumes nothing.
+use Prim.Native.Nat.{ℕ, _+_, _-_, _≤_, _<_}
+use native.Mathlib.Omega.{arith}
+use borrow.Author.Needs.{needs}
+use borrow.Author.Count.{below-more}
+use Rattle.frames.specs.Units.{frame}
+use Rattle.frames.specs.Areas.{areaIn}
+use Rattle.frames.proofs.AreaFacts.{out-of-area, out-of-areas, still-out}
+use Rattle.frames.proofs.areas.next_area.Statement.{statement}
+use Rattle.frames.proofs.areas.next_area.Tie as tie
+
+abbrev Inv-loop : tie.InvT-loop
+Inv-loop base declared at len areas end stop₀ k₀ stop k =
+    (at < stop) × (stop ≤ len) × ((j : ℕ) → j < k → at < areaIn areas j .base .0 - base .0 → stop ≤ areaIn areas j .base .0 - base .0)
+
+abbrev μ-loop : tie.MeasureT-loop
+μ-loop base declared at len areas end stop₀ k₀ stop k = end - k
+
+in-use-requires : tie.Need-in-use-requires Inv-loop μ-loop
+in-use-requires c κs = search needs
+
+loop-holds : tie.Need-loop-holds Inv-loop μ-loop
+loop-holds c = (omega arith, omega arith, λ j h. absurd (omega arith))
+
+mul-area : tie.Need-mul-area Inv-loop μ-loop
+mul-area c = search needs
+
+array-copy-out-area : tie.Need-array-copy-out-area Inv-loop μ-loop
+array-copy-out-area c = search needs
+
+start-place-requires : tie.Need-start-place-requires Inv-loop μ-loop
+start-place-requires c κs = search needs
+
+add-k : tie.Need-add-k Inv-loop μ-loop
+add-k c = search needs
+
+loop-less : tie.Need-loop-less Inv-loop μ-loop
+loop-less c = search needs
+
+loop-again : tie.Need-loop-again Inv-loop μ-loop
+loop-again c =
+    let areas = c .before .before .before .before .before .args .t2 in
+    let base = c .before .before .before .before .before .args .base in
+    let at = c .before .before .before .before .before .args .at in
+    let r = c .start-place .result in
+    let s = c .start-place .ensures in
+    let inv = c .before .before .before .loop .inv in (
+      s .low (inv .0),
+      omega (arith, s .high),
+      below-more (λ (j : ℕ). at < areaIn areas j .base .0 - base .0 → r ≤ areaIn areas j .base .0 - base .0) _
+          (λ j h w. omega (arith, s .high, inv .2 j h w)) (s .near),
+    )
+
+returns : tie.Need-returns Inv-loop μ-loop
+returns c =
+    let at = c .before .before .before .args in
+    let inv = c .before .loop .inv in
+    record {
+      low = inv .0;
+      high = inv .1;
+      clear = λ e p h l.
+          out-of-areas (at .t2) (at .declared) (frame (at .base .0 + p)) (omega arith)
+          (λ j w.
+          still-out (areaIn (at .t2) j) (at .base .0) (at .at) p h (λ u. omega (arith, inv .2 j (omega arith) u))
+          (out-of-area (at .t2) (at .declared) (frame (at .base .0 + at .at)) e j (omega arith)));
+    }
+
+pub next-area-spec : {M : Type 1} → statement M
+next-area-spec =
+    tie.close
+    (tie.spec
+    Inv-loop
+    μ-loop
+    in-use-requires
+    loop-holds
+    mul-area
+    array-copy-out-area
+    start-place-requires
+    add-k
+    loop-less
+    loop-again
+    returns)

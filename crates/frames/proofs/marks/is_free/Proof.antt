@@ -1,0 +1,13 @@
+-- `frames::marks::is_free` meets its contract: by the test of the kind. Assumes nothing.
+use borrow.Author.Tests.{eq-eqb, ne-eqb}
+use Rattle.frames.proofs.marks.is_free.Statement.{statement}
+use Rattle.frames.proofs.marks.is_free.Tie as tie
+
+returns : tie.Need-returns
+returns c = simp (eq-eqb _ _ (c .if1 .taken))
+
+returns-2 : tie.Need-returns-2
+returns-2 c = simp (ne-eqb _ _ (c .if1 .left))
+
+pub is-free-spec : {M : Type 1} → statement M
+is-free-spec = tie.close (tie.spec returns returns-2)

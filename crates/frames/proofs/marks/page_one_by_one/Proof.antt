@@ -1,0 +1,61 @@
+-- `frames::marks::page_one_by_one` meets its contract: what is left to search is the range from `i` on. Assumes nothing.
+use Prim.Native.Nat.{_-_}
+use native.Mathlib.Omega.{arith}
+use mathlib.Core.Path.{sym, _∙_}
+use borrow.Author.Needs.{needs}
+use Rattle.frames.specs.Marks.{isPageOf}
+use Rattle.frames.specs.Scans.{marked}
+use Rattle.frames.proofs.ScanFacts.{Seeking, seek-start, seek-turn, seek-hit, seek-end}
+use Rattle.frames.proofs.marks.page_one_by_one.Statement.{statement}
+use Rattle.frames.proofs.marks.page_one_by_one.Tie as tie
+
+abbrev Inv-loop : tie.InvT-loop
+Inv-loop marks name from end i₀ i = Seeking (marked (isPageOf name) marks) from end i
+
+abbrev μ-loop : tie.MeasureT-loop
+μ-loop marks name from end i₀ i = end - i
+
+loop-holds : tie.Need-loop-holds Inv-loop μ-loop
+loop-holds c = seek-start
+
+mul-is-page : tie.Need-mul-is-page Inv-loop μ-loop
+mul-is-page c = search needs
+
+shared-slice-read-is-page : tie.Need-shared-slice-read-is-page Inv-loop μ-loop
+shared-slice-read-is-page c = omega arith
+
+is-page-requires : tie.Need-is-page-requires Inv-loop μ-loop
+is-page-requires c κs = search needs
+
+returns : tie.Need-returns Inv-loop μ-loop
+returns c =
+    seek-hit (c .before .before .before .before .loop .inv) (omega arith) (sym (c .before .is-page .ensures) ∙ c .if1 .taken)
+
+add-i : tie.Need-add-i Inv-loop μ-loop
+add-i c = omega arith
+
+loop-less : tie.Need-loop-less Inv-loop μ-loop
+loop-less c = omega arith
+
+loop-again : tie.Need-loop-again Inv-loop μ-loop
+loop-again c =
+    seek-turn (c .before .before .before .before .loop .inv) (omega arith) (sym (c .before .is-page .ensures) ∙ c .if1 .left)
+
+returns-2 : tie.Need-returns-2 Inv-loop μ-loop
+returns-2 c = seek-end (c .before .loop .inv) (omega arith)
+
+pub page-one-by-one-spec : {M : Type 1} → statement M
+page-one-by-one-spec =
+    tie.close
+    (tie.spec
+    Inv-loop
+    μ-loop
+    loop-holds
+    mul-is-page
+    shared-slice-read-is-page
+    is-page-requires
+    returns
+    add-i
+    loop-less
+    loop-again
+    returns-2)

@@ -1,0 +1,301 @@
+// Scans of the marks. A long scan goes by blocks of 32: whether a block can hold what is sought is asked of all 32 with no exit between them,
+// which the compiler turns into vector instructions, and only a block that can is looked through place by place.
+ghost use Prim.Native.Nat.{_≤_, _+_, _-_};
+ghost use mathlib.Core.Path.{_≡_};
+ghost use lib.Dec.{leb};
+ghost use lib.ListN.{length};
+ghost use Rattle.search.specs.Choice.{if_then_else_};
+ghost use Rattle.search.specs.Search.{lowest, lowestFrom, some, every, howMany};
+ghost use Rattle.frames.specs.Units.{place};
+ghost use Rattle.frames.specs.Marks.{hasKind, isPageOf, canLeave, free, movable, later};
+ghost use Rattle.frames.specs.Scans.{marked, hasField, isFreeOrdinary};
+use crate::Area;
+use crate::Frame;
+use crate::Place;
+use crate::areas::ordinary_run;
+use crate::fills::range_end;
+
+// The mark is a page of that name.
+fn is_page(mark: u32, name: u32) -> bool
+    ensures { λ r. ⌜ r ≡ isPageOf name mark ⌝ }
+{
+    let kind = mark % 8;
+    if kind == 0 {
+        return false;
+    }
+    if 3 < kind {
+        return false;
+    }
+    mark / 8 == name
+}
+
+// The same as `page_in`, place by place.
+fn page_one_by_one(marks: &[u32], name: u32, from: usize, end: usize) -> usize
+    requires { ⌜ (from ≤ end) × (end ≤ length (now marks)) ⌝ }
+    ensures { λ r. ⌜ r ≡ lowestFrom (marked (isPageOf name) (now (marks .entry))) from (end - from) ⌝ }
+{
+    let mut i = from;
+    while i < end {
+        if is_page(marks[i], name) {
+            return i;
+        }
+        i += 1;
+    }
+    i
+}
+
+// Some mark of the block has that field.
+fn block_has_field(marks: &[u32], field: u32, from: usize) -> bool
+    requires { ⌜ from + 32 ≤ length (now marks) ⌝ }
+    ensures { λ r. ⌜ r ≡ some (marked (hasField field) (now (marks .entry))) from 32 ⌝ }
+{
+    let mut hit = false;
+    let mut j = 0;
+    while j < 32 {
+        hit = hit | (marks[from + j] / 8 == field);
+        j += 1;
+    }
+    hit
+}
+
+// The same as `page_in`, in one block.
+fn page_in_block(marks: &[u32], name: u32, from: usize) -> usize
+    requires { ⌜ from + 32 ≤ length (now marks) ⌝ }
+    ensures { λ r. ⌜ r ≡ lowestFrom (marked (isPageOf name) (now (marks .entry))) from ((from + 32) - from) ⌝ }
+{
+    if block_has_field(marks, name, from) {
+        return page_one_by_one(marks, name, from, from + 32);
+    }
+    from + 32
+}
+
+// The lowest place of a range whose mark is a page of that name; the range's end where there is none.
+fn page_in(marks: &[u32], name: u32, from: usize, end: usize) -> usize
+    requires { ⌜ (from ≤ end) × (end ≤ length (now marks)) ⌝ }
+    ensures { λ r. ⌜ r ≡ lowestFrom (marked (isPageOf name) (now (marks .entry))) from (end - from) ⌝ }
+{
+    let mut i = from;
+    while 32 <= end - i {
+        let at = page_in_block(marks, name, i);
+        if at < i + 32 {
+            return at;
+        }
+        i += 32;
+    }
+    page_one_by_one(marks, name, i, end)
+}
+
+// The lowest place whose mark is a page of that name; the place after the last where there is none.
+pub fn find_page(marks: &[u32], name: u64) -> Place
+    ensures { λ r. ⌜ r ≡ place (lowest (marked (isPageOf name) (now (marks .entry))) (length (now (marks .entry)))) ⌝ }
+{
+    let len = marks.len();
+    if 0x1fff_ffff < name {
+        return Place(len);
+    }
+    Place(page_in(marks, name as u32, 0, len))
+}
+
+// The same as `free_in`, place by place.
+fn free_one_by_one(marks: &[u32], from: usize, end: usize) -> usize
+    requires { ⌜ (from ≤ end) × (end ≤ length (now marks)) ⌝ }
+    ensures { λ r. ⌜ r ≡ lowestFrom (marked (hasKind free) (now (marks .entry))) from (end - from) ⌝ }
+{
+    let mut i = from;
+    while i < end {
+        if marks[i] % 8 == 0 {
+            return i;
+        }
+        i += 1;
+    }
+    i
+}
+
+// Some mark of the block is free.
+fn block_has_free(marks: &[u32], from: usize) -> bool
+    requires { ⌜ from + 32 ≤ length (now marks) ⌝ }
+    ensures { λ r. ⌜ r ≡ some (marked (hasKind free) (now (marks .entry))) from 32 ⌝ }
+{
+    let mut hit = false;
+    let mut j = 0;
+    while j < 32 {
+        hit = hit | (marks[from + j] % 8 == 0);
+        j += 1;
+    }
+    hit
+}
+
+// The same as `free_in`, in one block.
+fn free_in_block(marks: &[u32], from: usize) -> usize
+    requires { ⌜ from + 32 ≤ length (now marks) ⌝ }
+    ensures { λ r. ⌜ r ≡ lowestFrom (marked (hasKind free) (now (marks .entry))) from ((from + 32) - from) ⌝ }
+{
+    if block_has_free(marks, from) {
+        return free_one_by_one(marks, from, from + 32);
+    }
+    from + 32
+}
+
+// The lowest free place of a range; the range's end where there is none.
+fn free_in(marks: &[u32], from: usize, end: usize) -> usize
+    requires { ⌜ (from ≤ end) × (end ≤ length (now marks)) ⌝ }
+    ensures { λ r. ⌜ r ≡ lowestFrom (marked (hasKind free) (now (marks .entry))) from (end - from) ⌝ }
+{
+    let mut i = from;
+    while 32 <= end - i {
+        let at = free_in_block(marks, i);
+        if at < i + 32 {
+            return at;
+        }
+        i += 32;
+    }
+    free_one_by_one(marks, i, end)
+}
+
+// The lowest free place at all.
+pub fn find_free(marks: &[u32]) -> Place
+    ensures { λ r. ⌜ r ≡ place (lowest (marked (hasKind free) (now (marks .entry))) (length (now (marks .entry)))) ⌝ }
+{
+    let len = marks.len();
+    Place(free_in(marks, 0, len))
+}
+
+// Each of the `count` places from `from` on is free or movable.
+pub fn can_leave(marks: &[u32], from: usize, count: u64) -> bool
+    ensures { λ r. ⌜ r ≡ every (marked canLeave (now (marks .entry))) from count ⌝ }
+{
+    let end = range_end(from, count, marks.len());
+    let mut i = from;
+    while i < end {
+        if 1 < marks[i] % 8 {
+            return false;
+        }
+        i += 1;
+    }
+    true
+}
+
+// Each of the `count` places from `from` on is a later frame of a grant.
+pub fn are_later(marks: &[u32], from: usize, count: u64) -> bool
+    ensures { λ r. ⌜ r ≡ every (marked (hasKind later) (now (marks .entry))) from count ⌝ }
+{
+    if count == 0 {
+        return true;
+    }
+    let len = marks.len();
+    if len <= from {
+        return false;
+    }
+    if ((len - from) as u64) < count {
+        return false;
+    }
+    let end = from + count as usize;
+    let mut i = from;
+    while i < end {
+        if marks[i] % 8 != 5 {
+            return false;
+        }
+        i += 1;
+    }
+    true
+}
+
+// How many of the `count` places from `from` on are movable.
+pub fn count_movable(marks: &[u32], from: usize, count: u64) -> u64
+    ensures { λ r. ⌜ r ≡ howMany (marked (hasKind movable) (now (marks .entry))) from count ⌝ }
+{
+    let end = range_end(from, count, marks.len());
+    let mut found = 0;
+    let mut i = from;
+    while i < end {
+        found += is_movable(marks[i]);
+        i += 1;
+    }
+    found
+}
+
+// 1 for a movable page's mark, else 0.
+fn is_movable(mark: u32) -> u64
+    ensures { λ r. ⌜ r ≡ (if hasKind movable mark then 1 else 0) ⌝ }
+{
+    if mark % 8 == 1 {
+        return 1;
+    }
+    0
+}
+
+// The lowest free place from `from` on that is in none of the first `declared` areas, in a table that begins at frame `base`.
+pub fn find_free_ordinary(
+    marks: &[u32],
+    base: Frame,
+    areas: [Area; 8],
+    declared: u64,
+    from: usize,
+) -> Place
+    ensures { λ r. ⌜ r ≡ place (lowestFrom (isFreeOrdinary (now (marks .entry)) base areas declared) from (length (now (marks .entry)) - from)) ⌝ }
+{
+    let len = marks.len();
+    let mut i = from;
+    while i < len {
+        let run = ordinary_run(base, areas, declared, i, len);
+        let end = run.end;
+        let at = free_in(marks, run.from, end);
+        if at < end {
+            return Place(at);
+        }
+        i = end;
+    }
+    Place(i)
+}
+
+// What is left of `least` after the free places of a range are taken off.
+fn less_free(marks: &[u32], from: usize, end: usize, least: u64) -> u64
+    requires { ⌜ (from ≤ end) × (end ≤ length (now marks)) ⌝ }
+    ensures { λ r. ⌜ r ≡ least - howMany (marked (hasKind free) (now (marks .entry))) from (end - from) ⌝ }
+{
+    let mut left = least;
+    let mut i = from;
+    while i < end {
+        if left == 0 {
+            return 0;
+        }
+        left -= is_free(marks[i]);
+        i += 1;
+    }
+    left
+}
+
+// 1 for a free mark, else 0.
+fn is_free(mark: u32) -> u64
+    ensures { λ r. ⌜ r ≡ (if hasKind free mark then 1 else 0) ⌝ }
+{
+    if mark % 8 == 0 {
+        return 1;
+    }
+    0
+}
+
+// At least `least` free places are in none of the first `declared` areas.
+pub fn has_free_ordinary(
+    marks: &[u32],
+    base: Frame,
+    areas: [Area; 8],
+    declared: u64,
+    least: u64,
+) -> bool
+    ensures { λ r. ⌜ r ≡ leb least (howMany (isFreeOrdinary (now (marks .entry)) base areas declared) 0 (length (now (marks .entry)))) ⌝ }
+{
+    let len = marks.len();
+    let mut left = least;
+    let mut i = 0;
+    while i < len {
+        if left == 0 {
+            return true;
+        }
+        let run = ordinary_run(base, areas, declared, i, len);
+        let end = run.end;
+        left = less_free(marks, run.from, end, left);
+        i = end;
+    }
+    left == 0
+}
