@@ -1,3 +1,5 @@
 pub mod Amounts
+pub mod Outcome
 pub mod Reading
+pub mod Steps
 pub mod Text

@@ -1,0 +1,111 @@
+// The regions of a text, one after the other.
+ghost use mathlib.Core.Path.{_≡_};
+ghost use mathlib.Core.List.{[], _∷_, _++_};
+ghost use Prim.Native.Nat.{_<_, _≤_};
+ghost use Rattle.regions.specs.Reading.{gives, refuses};
+ghost use Rattle.regions.specs.Text.{regionsFrom};
+ghost use Rattle.regions.specs.Steps.{regionRead, separatedFrom, nextRegion};
+ghost use Rattle.regions.specs.Outcome.{held, Holding, outcome, noRegion, regionsAt};
+use crate::Region;
+use crate::Regions;
+use crate::bytes::byte_at;
+use crate::parts::Found;
+use crate::parts::region_at;
+use answer::refusal;
+
+const MOST_TEXT: usize = 1024;
+
+const MOST_REGIONS: usize = 8;
+
+// The ; after a region, or the end of the text.
+fn separated(text: &[u8], at: usize, region: Region) -> Found
+    ensures { λ r. ⌜ regionRead r ≡ separatedFrom region (now (text .entry)) at ⌝ }
+{
+    if at == text.len() {
+        return Found::Gives(region, at);
+    }
+    if byte_at(text, at) != b';' {
+        return Found::Refuses(refusal::UNEXPECTED_BYTE, at);
+    }
+    Found::Gives(region, at + 1)
+}
+
+fn next_region(text: &[u8], at: usize, known: Regions) -> Found
+    requires { ⌜ Holding known ⌝ }
+    ensures { λ r. ⌜ regionRead r ≡ nextRegion (held known) (now (text .entry)) at ⌝ }
+{
+    match region_at(text, at, known) {
+        Found::Refuses(refusal, place) => Found::Refuses(refusal, place),
+        Found::Gives(region, next) => separated(text, next, region),
+    }
+}
+
+fn no_region() -> Region
+    ensures { λ r. ⌜ r ≡ noRegion ⌝ }
+{
+    Region {
+        name: 0,
+        length: 0,
+        size: 0,
+        start: 0,
+        alignment: 0,
+    }
+}
+
+// No regions, with a refusal's number and place; both are 0 where nothing is refused.
+fn refused(number: u64, place: usize) -> Regions
+    ensures { λ r. ⌜ r ≡ outcome (refuses number place) ⌝ }
+{
+    let none = no_region();
+    Regions {
+        refusal: number,
+        place,
+        count: 0,
+        list: [none; 8],
+    }
+}
+
+// One region more.
+fn with(known: Regions, region: Region) -> Regions
+    requires { ⌜ (known .count < 8) × (Holding known) ⌝ }
+    ensures { λ r. ⌜ r ≡ outcome (gives (held known ++ (region ∷ [])) 0) ⌝ }
+{
+    let mut more = known;
+    let i = more.count;
+    more.list[i] = region;
+    more.count = i + 1;
+    more
+}
+
+fn list_from(text: &[u8], at: usize) -> Regions
+    ensures { λ r. ⌜ r ≡ outcome (regionsFrom 8 [] (now (text .entry)) at) ⌝ }
+{
+    let mut known = refused(refusal::NONE, 0);
+    let mut next = at;
+    while known.count < MOST_REGIONS {
+        if next == text.len() {
+            return known;
+        }
+        match next_region(text, next, known) {
+            Found::Refuses(refusal, place) => return refused(refusal, place),
+            Found::Gives(region, after) => {
+                known = with(known, region);
+                next = after;
+            }
+        }
+    }
+    if next == text.len() {
+        return known;
+    }
+    refused(refusal::TOO_MANY_REGIONS, next)
+}
+
+// The regions of a text from an offset on.
+pub fn list_at(text: &[u8], at: usize) -> Regions
+    ensures { λ r. ⌜ r ≡ regionsAt (now (text .entry)) at ⌝ }
+{
+    if MOST_TEXT < text.len() {
+        return refused(refusal::TEXT_TOO_LONG, MOST_TEXT);
+    }
+    list_from(text, at)
+}
