@@ -1,7 +1,7 @@
 -- Document 01, "Boot and area declaration": declare (base, size, limit, alignment, k, fixed). Amounts are bytes.
 use Prim.Native.Nat.{ℕ, suc, _+_, _-_, _*_, _/_, _^_, max}
 use mathlib.Core.Bool.{Bool, not, _&&_, _||_}
-use mathlib.Core.List.{[], _∷_}
+use mathlib.Core.List.{List, [], _∷_}
 use lib.Dec.{leb, ltb, eqb}
 use lib.ListN.{length, set}
 use Rattle.search.specs.Choice.{if_then_else_}
@@ -18,7 +18,7 @@ use Rattle.machine.specs.declared.Request.{Request}
 use Rattle.machine.specs.Limits.{mostAreas, pageBytes}
 use Rattle.machine.specs.Record.{placeOf, endFrame}
 use Rattle.machine.specs.Shape.{shapeWrong, wordsNeeded}
-use Rattle.machine.specs.Outcomes.{Outcome, outcome, _⇒_, checked}
+use Rattle.machine.specs.Outcomes.{Outcome, outcome, Check, _⇒_, checked}
 use Rattle.machine.specs.PageCalls.{freeOrdinary}
 
 -- an amount passes 2^48, the size is 0, or the alignment is neither 0 nor a power of two
@@ -97,17 +97,24 @@ abbrev pub withArea : Machine → Area → Machine
 withArea m a =
     record { base = m .base; frames = m .frames; order = m .order; declared = suc (m .declared); areas = set (m .areas) (m .declared) a }
 
-unfoldable pub declare : Machine → Request → Tables → Outcome
-declare m r t =
-    let a = areaFrom m r (startFor m r t) in
-    checked m t
-    (shapeWrong m t ⇒ 1 ∷
+-- the area that is declared
+abbrev pub areaFor : Machine → Request → Tables → Area
+areaFor m r t = areaFrom m r (startFor m r t)
+
+abbrev pub declareChecks : Machine → Request → Tables → List Check
+declareChecks m r t =
+    shapeWrong m t ⇒ 1 ∷
     leb mostAreas (m .declared) ⇒ 10 ∷
     badRequest r ⇒ 2 ∷
     ltb (m .order) (r .order) ⇒ 11 ∷
-    ltb (length (t .bitmap)) (wordsNeeded m + wordCount a) ⇒ 14 ∷
+    ltb (length (t .bitmap)) (wordsNeeded m + wordCount (areaFor m r t)) ⇒ 14 ∷
     (isFixed m r && isOutside m r) ⇒ 13 ∷
-    (isFixed m r && not (isVacant m t a)) ⇒ 12 ∷
+    (isFixed m r && not (isVacant m t (areaFor m r t))) ⇒ 12 ∷
     (not (isFixed m r) && leb (firstMultiple m r + multiples m r) (highestFit m r t)) ⇒ 13 ∷
-    [])
+    []
+
+unfoldable pub declare : Machine → Request → Tables → Outcome
+declare m r t =
+    let a = areaFor m r t in
+    checked m t (declareChecks m r t)
     (outcome (withArea m a) (done (a .base .0) (a .count)) (withBitmap t (fill (t .bitmap) (wordsNeeded m) (wordCount a) 0)))

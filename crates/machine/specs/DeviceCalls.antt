@@ -1,7 +1,7 @@
 -- Document 01, "Device calls".
 use Prim.Native.Nat.{ℕ, zero, suc, _+_, _-_, _^_}
 use mathlib.Core.Bool.{Bool, not, _&&_, _||_}
-use mathlib.Core.List.{[], _∷_}
+use mathlib.Core.List.{List, [], _∷_}
 use lib.Dec.{leb, ltb, eqb}
 use Rattle.search.specs.Choice.{if_then_else_}
 use Rattle.search.specs.Search.{lowest, every, howMany}
@@ -19,7 +19,7 @@ use Rattle.machine.specs.declared.Machine.{Machine}
 use Rattle.machine.specs.Limits.{mostAlignment}
 use Rattle.machine.specs.Record.{areaAt, placeOf, endFrame}
 use Rattle.machine.specs.Shape.{shapeWrong}
-use Rattle.machine.specs.Outcomes.{Outcome, outcome, _⇒_, checked}
+use Rattle.machine.specs.Outcomes.{Outcome, outcome, Check, _⇒_, checked}
 use Rattle.machine.specs.PageCalls.{lowestPlace, freeOrdinary}
 
 -- the first word of area i's bitmap
@@ -79,17 +79,20 @@ takeRun m t i count j =
 abbrev pub noArea : Machine → ℕ → Bool
 noArea m i = leb (m .declared) i
 
+abbrev pub grantChecks : Machine → ℕ → ℕ → ℕ → Tables → List Check
+grantChecks m i count order t =
+    let j = chosen m t i count order in
+    shapeWrong m t ⇒ 1 ∷
+    (noArea m i || eqb count 0 || ltb mostAlignment order) ⇒ 2 ∷
+    leb (bitCount (areaAt m i)) (j .0) ⇒ 7 ∷
+    ltb (targets m t) (movers t (placeOfBit m i j) count) ⇒ 8 ∷
+    []
+
 unfoldable pub grant : Machine → ℕ → ℕ → ℕ → Tables → Outcome
 grant m i count order t =
     let j = chosen m t i count order in
-    let moved = movers t (placeOfBit m i j) count in
-    checked m t
-    (shapeWrong m t ⇒ 1 ∷
-    (noArea m i || eqb count 0 || ltb mostAlignment order) ⇒ 2 ∷
-    leb (bitCount (areaAt m i)) (j .0) ⇒ 7 ∷
-    ltb (targets m t) moved ⇒ 8 ∷
-    [])
-    (outcome m (done (frameOfBit (areaAt m i) j .0) moved) (takeRun m t i count j))
+    checked m t (grantChecks m i count order t)
+    (outcome m (done (frameOfBit (areaAt m i) j .0) (movers t (placeOfBit m i j) count)) (takeRun m t i count j))
 
 -- ---- Release (area, frame, count)
 
@@ -110,39 +113,34 @@ freeRun m t i f count =
     withBitmap (fillPages t (placeOf m f) count 0 0)
     (clearBits (t .bitmap) (bitmapOf m i) (bitOfFrame (areaAt m i) f .0) (bitsFor (areaAt m i) count))
 
-unfoldable pub release : Machine → ℕ → Frame → ℕ → Tables → Outcome
-release m i f count t =
-    let a = areaAt m i in
+abbrev pub releaseChecks : Machine → ℕ → Frame → ℕ → Tables → List Check
+releaseChecks m i f count t =
     let mark = markAt t (placeOf m f) in
-    checked m t
-    (shapeWrong m t ⇒ 1 ∷
-    (noArea m i || eqb count 0 || outsideArea a f count) ⇒ 2 ∷
-    (offBit a f || not (hasKind head mark)) ⇒ 3 ∷
+    shapeWrong m t ⇒ 1 ∷
+    (noArea m i || eqb count 0 || outsideArea (areaAt m i) f count) ⇒ 2 ∷
+    (offBit (areaAt m i) f || not (hasKind head mark)) ⇒ 3 ∷
     (not (eqb (fieldOf mark) count) || not (laterFrames t (placeOf m f) count)) ⇒ 9 ∷
-    [])
-    (outcome m (done 0 0) (freeRun m t i f count))
+    []
+
+unfoldable pub release : Machine → ℕ → Frame → ℕ → Tables → Outcome
+release m i f count t = checked m t (releaseChecks m i f count t) (outcome m (done 0 0) (freeRun m t i f count))
 
 -- ---- Device store, device read
 
 abbrev pub outsideMemory : Machine → Frame → Bool
 outsideMemory m f = ltb (f .0) (m .base .0) || leb (endFrame m) (f .0)
 
+abbrev pub deviceChecks : Machine → Frame → Tables → List Check
+deviceChecks m f t =
+    shapeWrong m t ⇒ 1 ∷
+    outsideMemory m f ⇒ 2 ∷
+    not (isGranted (markAt t (placeOf m f))) ⇒ 3 ∷
+    []
+
 unfoldable pub deviceStore : Machine → Frame → ℕ → Tables → Outcome
 deviceStore m f word t =
     let p = placeOf m f in
-    checked m t
-    (shapeWrong m t ⇒ 1 ∷
-    outsideMemory m f ⇒ 2 ∷
-    not (isGranted (markAt t p)) ⇒ 3 ∷
-    [])
-    (outcome m (done 0 0) (setPage t p (markAt t p) word))
+    checked m t (deviceChecks m f t) (outcome m (done 0 0) (setPage t p (markAt t p) word))
 
 unfoldable pub deviceRead : Machine → Frame → Tables → Outcome
-deviceRead m f t =
-    let p = placeOf m f in
-    checked m t
-    (shapeWrong m t ⇒ 1 ∷
-    outsideMemory m f ⇒ 2 ∷
-    not (isGranted (markAt t p)) ⇒ 3 ∷
-    [])
-    (outcome m (done (wordAt t p) 0) t)
+deviceRead m f t = checked m t (deviceChecks m f t) (outcome m (done (wordAt t (placeOf m f)) 0) t)

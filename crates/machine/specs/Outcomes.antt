@@ -1,6 +1,7 @@
 -- Document 01, "Numbers the clerk sees": what a call leaves, and its checks in the order written.
 use Prim.Native.Nat.{ℕ}
-use mathlib.Core.Bool.{Bool}
+use mathlib.Core.Path.{_≡_}
+use mathlib.Core.Bool.{Bool, true, false}
 use mathlib.Core.List.{List, [], _∷_}
 use Rattle.search.specs.Choice.{if_then_else_}
 use Rattle.answer.specs.declared.Answer.{Answer}
@@ -22,6 +23,9 @@ outcome m a t = record { machine = m; answer = a; left = t }
 abbrev pub outcomeOf : Returned → List ℕ → List ℕ → List ℕ → Outcome
 outcomeOf r marks words bitmap = outcome (r .machine) (r .answer) (tables marks words bitmap)
 
+abbrev pub returned : Machine → Answer → Returned
+returned m a = record { machine = m; answer = a }
+
 -- a check of a call: where it holds, the call is refused with that number
 pub record Check : Type 0 where
   pub holds : Bool
@@ -39,3 +43,13 @@ refuse m t number = outcome m (refused number) t
 unfoldable pub checked : Machine → Tables → List Check → Outcome → Outcome
 checked m t [] o = o
 checked m t (c ∷ cs) o = if c .holds then refuse m t (c .number) else checked m t cs o
+
+-- the first check of the list that holds has the number n
+pub data First : List Check → ℕ → Type 0 where
+  here : {c : Check} {cs : List Check} → c .holds ≡ true → First (c ∷ cs) (c .number)
+  there : {c : Check} {cs : List Check} {n : ℕ} → c .holds ≡ false → First cs n → First (c ∷ cs) n
+
+-- no check of the list holds
+pub data Passed : List Check → Type 0 where
+  end : Passed []
+  next : {c : Check} {cs : List Check} → c .holds ≡ false → Passed cs → Passed (c ∷ cs)

@@ -1,6 +1,15 @@
 // The contiguous-memory page manager: the machine record and its calls.
 ghost use mathlib.Core.Path.{_≡_};
 ghost use Rattle.machine.specs.Record.{freshMachine};
+
+mod areas;
+mod boot;
+mod grants;
+mod kinds;
+mod pages;
+mod shape;
+mod units;
+
 use answer::Answer;
 use frames::Area;
 use frames::Frame;

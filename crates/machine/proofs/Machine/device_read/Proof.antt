@@ -1,0 +1,67 @@
+-- `machine::Machine::device_read` meets its contract: what its checks found says what the call does. Assumes nothing.
+use Rattle.machine.proofs.DeviceOutcomes.{place-below, granted-known, read-refused, read-done}
+use Rattle.machine.proofs.Checks.{returns-it}
+use borrow.Author.Needs.{needs}
+use Rattle.machine.proofs.Machine.device_read.Statement.{statement}
+use Rattle.machine.proofs.Machine.device_read.Tie as tie
+
+device-refusal-requires : tie.Need-device-refusal-requires
+device-refusal-requires c κs = search needs
+
+refused-requires : tie.Need-refused-requires
+refused-requires c κs = search needs
+
+same-length : tie.Need-same-length
+same-length c = search needs
+
+same-length-2 : tie.Need-same-length-2
+same-length-2 c = search needs
+
+same-length-3 : tie.Need-same-length-3
+same-length-3 c = search needs
+
+returns : tie.Need-returns
+returns c = returns-it (c .refused .ensures) (read-refused _ _ _ (c .before .before .device-refusal .ensures) (c .before .if1 .taken))
+
+place-of-requires : tie.Need-place-of-requires
+place-of-requires c κs = granted-known _ _ _ (c .before .device-refusal .ensures) (c .if1 .left) .has .low
+
+mul-done : tie.Need-mul-done
+mul-done c = let h = place-below (c .place-of .ensures) (granted-known _ _ _ (c .before .before .device-refusal .ensures) (c .before .if1 .left) .has .in-words) in search needs
+
+slice-read-done : tie.Need-slice-read-done
+slice-read-done c = place-below (c .before .place-of .ensures) (granted-known _ _ _ (c .before .before .before .device-refusal .ensures) (c .before .before .if1 .left) .has .in-words)
+
+done-requires : tie.Need-done-requires
+done-requires c κs = search needs
+
+same-length-4 : tie.Need-same-length-4
+same-length-4 c = search needs
+
+same-length-5 : tie.Need-same-length-5
+same-length-5 c = search needs
+
+same-length-6 : tie.Need-same-length-6
+same-length-6 c = search needs
+
+returns-2 : tie.Need-returns-2
+returns-2 c = returns-it (c .done .ensures) (read-done _ _ _ _ (c .before .before .place-of .ensures) (granted-known _ _ _ (c .before .before .before .before .device-refusal .ensures) (c .before .before .before .if1 .left)))
+
+pub device-read-spec : {M : Type 1} → statement M
+device-read-spec =
+    tie.close
+    (tie.spec
+    device-refusal-requires
+    refused-requires
+    same-length
+    same-length-2
+    same-length-3
+    returns
+    place-of-requires
+    mul-done
+    slice-read-done
+    done-requires
+    same-length-4
+    same-length-5
+    same-length-6
+    returns-2)

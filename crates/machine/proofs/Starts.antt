@@ -1,0 +1,422 @@
+-- A boot declares its regions as the plans say, one after the other. Assumes nothing.
+--     plan-same          a plan goes by what the marks read
+--     Grown              what an accepted declaration leaves
+--     plans-all          declaring in turn on the tables is planning in turn
+--     bare-shape         the record that a boot begins with
+--     boot-wrong, boot-refused, boot-done    what a boot does
+--     Planning           a loop that plans region i
+--     read-refused, read-given  the text's answer
+--     fill-all           a table that is filled is all one value
+use Prim.Native.Nat.{ℕ, zero, suc, _+_, _-_, _*_, _≤_, _<_}
+use native.Mathlib.Nat.{zero-add, add-zero}
+use native.Mathlib.Omega.{arith}
+use mathlib.Core.Logic.{_⊎_, inl, inr}
+use mathlib.Core.Bool.{Bool, true, false, not, _&&_}
+use mathlib.Core.List.{List, [], _∷_}
+use mathlib.Core.Path.{_≡_, refl, sym, ap, subst, _∙_}
+use lib.Dec.{leb, ltb, eqb}
+use lib.ListN.{length, getD, replicate, length-replicate, getD-replicate, List·getD-eq-default}
+use lib.Seq.{ext-getD, getD-take}
+use borrow.Author.Tests.{eq-eqb, ne-eqb}
+use Rattle.search.specs.Choice.{if_then_else_}
+use Rattle.search.proofs.Bools.{below-or-not, and-left, and-right}
+use Rattle.search.proofs.Ranges.{every-cong, every-none}
+use Rattle.search.proofs.Highest.{highest-greatest, greatest-unique}
+use Rattle.answer.specs.Answers.{done, refusedAt}
+use Rattle.frames.specs.declared.Area.{Area}
+use Rattle.frames.specs.Units.{place}
+use Rattle.frames.specs.Marks.{hasKind, free}
+use Rattle.frames.specs.Areas.{firstWord, wordCount}
+use Rattle.frames.specs.Tables.{Tables, tables, fill}
+use Rattle.frames.proofs.FillFacts.{length-fill, getD-fill-in}
+use Rattle.regions.specs.declared.Region.{Region}
+use Rattle.regions.specs.declared.Regions.{Regions}
+use Rattle.regions.specs.Reading.{Read, gives, refuses, _then_}
+use Rattle.regions.specs.Text.{regions}
+use Rattle.regions.specs.Outcome.{noRegion, held, outcome as textOutcome}
+use Rattle.regions.proofs.Refusals.{Sound, sound-regions, answer-refused, answer-given}
+use Rattle.machine.specs.declared.Machine.{Machine}
+use Rattle.machine.specs.declared.Request.{Request}
+use Rattle.machine.specs.declared.areas.Plan.{Plan}
+use Rattle.machine.specs.declared.areas.Plan.the-variants.{Made, Not}
+use Rattle.machine.specs.declared.boot.Start.{Start}
+use Rattle.machine.specs.Limits.{mostAreas}
+use Rattle.machine.specs.Record.{isOrdinary}
+use Rattle.machine.specs.Shape.{memoryRight, lengthsRight, areaFits, wordsNeeded, shapeRight}
+use Rattle.machine.specs.declared.Returned.{Returned}
+use Rattle.machine.specs.Outcomes.{Outcome, outcome, outcomeOf, returned}
+use Rattle.machine.specs.PageCalls.{freeOrdinary}
+use Rattle.machine.specs.Declare.{badRequest, sizeFor, alignmentFor, limitFor, baseFor, isFixed, isOutside, isVacant, areaFrom, areaFor, firstMultiple, multiples, fitsAt, highestFit, withArea, declare}
+use Rattle.machine.specs.Boot.{bareMachine, zeroTables, requestOf, declareAll, bootRecord, booted, boot}
+use Rattle.machine.specs.Plan.{planFixed, planHighest, planRounded, plan}
+use Rattle.machine.specs.Start.{startOf, followed, planFrom, startRead}
+use Rattle.machine.proofs.DeclareOutcomes.{concluded, declare-plan, plan-marks, plan-few}
+use Rattle.machine.proofs.Placement.{declare-cases, declared-shape, declared-records}
+use Rattle.machine.proofs.ShapeFacts.{facts-shape, lengths-facts}
+
+-- ---- marks that read the same
+module _ (m : Machine) (r : Request) (a b : List ℕ) (same : (q : ℕ) → getD a q 0 ≡ getD b q 0) where
+  abbrev ta : Tables
+  ta = tables a [] []
+
+  abbrev tb : Tables
+  tb = tables b [] []
+
+  free-same : (q : ℕ) → freeOrdinary m ta (place q) ≡ freeOrdinary m tb (place q)
+  unfolding freeOrdinary
+  free-same q = ap (λ (k : ℕ). hasKind free k && isOrdinary m (place q)) (same q)
+
+  vacant-same : (x : Area) → isVacant m ta x ≡ isVacant m tb x
+  unfolding isVacant
+  vacant-same x =
+      every-cong (λ q. freeOrdinary m ta (place q)) (λ q. freeOrdinary m tb (place q)) (x .base .0 - m .base .0) (x .count) (λ q u v. free-same q)
+
+  fits-same : (c : ℕ) → fitsAt m r ta c ≡ fitsAt m r tb c
+  unfolding fitsAt
+  fits-same c =
+      ap (λ (k : Bool). leb (c * alignmentFor m r + sizeFor m r) (limitFor m r) && k) (vacant-same (areaFrom m r (c * alignmentFor m r)))
+
+  highest-same : highestFit m r ta ≡ highestFit m r tb
+  unfolding highestFit
+  highest-same =
+      let i = firstMultiple m r in
+      let d = multiples m r in
+      let g = highest-greatest (fitsAt m r tb) i d in
+      greatest-unique (fitsAt m r ta) i d _ _ (highest-greatest (fitsAt m r ta) i d)
+      (record {
+        low = g .low;
+        high = g .high;
+        hit = λ h. fits-same _ ∙ g .hit h;
+        miss = λ k u v. fits-same k ∙ g .miss k u v;
+        none = λ e k u v. fits-same k ∙ g .none e k u v;
+      })
+
+  pub plan-same : (room : ℕ) → plan m r room ta ≡ plan m r room tb
+  unfolding plan planRounded planFixed planHighest
+  plan-same room = rw (vacant-same (areaFrom m r (baseFor m r)), highest-same)
+
+-- ---- an accepted declaration
+pub record Grown (m : Machine) (t : Tables) (o : Outcome) : Type 0 where
+  pub done : o .answer .refusal ≡ 0
+  pub more : o .machine .declared ≡ suc (m .declared)
+  pub shape : shapeRight (o .machine) (o .left) ≡ true
+  pub records : length (o .machine .areas) ≡ mostAreas
+  pub marks : o .left .marks ≡ t .marks
+  pub bitmap : length (o .left .bitmap) ≡ length (t .bitmap)
+
+grown : (m : Machine) (r : Request) (t : Tables) → shapeRight m t ≡ true → length (m .areas) ≡ mostAreas →
+    (0 < declare m r t .answer .refusal) ⊎ Grown m t (declare m r t)
+grown m r t shape records =
+    declare-cases (λ o. (0 < o .answer .refusal) ⊎ Grown m t o) m r t (λ number h. inl h)
+    (λ d.
+    inr
+    (record {
+      done = refl;
+      more = refl;
+      shape = declared-shape m r t shape records d;
+      records = declared-records m r t shape records d;
+      marks = refl;
+      bitmap = length-fill 0 (t .bitmap) _ _;
+    }))
+
+-- ---- in turn
+module _ (room : ℕ) (marks : List ℕ) (list : List Region) where
+  abbrev goesOn : List Region → ℕ → Outcome → Read Machine
+  goesOn rs i o = if eqb (o .answer .refusal) 0 then declareAll rs (suc i) (o .machine) (o .left) else refuses (o .answer .refusal) i
+
+  follows :
+      (rs : List Region) (i : ℕ) (m : Machine) (t : Tables) (p : Plan) (o : Outcome) →
+      o ≡ concluded m t p →
+      (0 < o .answer .refusal) ⊎ Grown m t o →
+      (Grown m t o → declareAll rs (suc i) (o .machine) (o .left) ≡ planFrom room marks list (suc i) (length rs) (o .machine)) →
+      goesOn rs i o ≡ followed p (planFrom room marks list (suc i) (length rs)) m i
+  follows rs i m t (Made a) o e (inl h) rest = absurd (let z : o .answer .refusal ≡ 0 = ap (λ (x : Outcome). x .answer .refusal) e in omega arith)
+  follows rs i m t (Made a) o e (inr g) rest =
+      ap (λ (b : Bool). if b then declareAll rs (suc i) (o .machine) (o .left) else refuses (o .answer .refusal) i) (eq-eqb (o .answer .refusal) 0 (g .done)) ∙
+      rest g ∙
+      ap (λ (x : Outcome). planFrom room marks list (suc i) (length rs) (x .machine)) e
+  follows rs i m t (Not n) o e (inl h) rest =
+      ap (λ (b : Bool). if b then declareAll rs (suc i) (o .machine) (o .left) else refuses (o .answer .refusal) i) (ne-eqb (o .answer .refusal) 0 (λ z. omega arith)) ∙
+      ap (λ (x : Outcome). refuses (x .answer .refusal) i) e
+  follows rs i m t (Not n) o e (inr g) rest =
+      absurd (let z : o .machine .declared ≡ m .declared = ap (λ (x : Outcome). x .machine .declared) e in omega (arith, g .more))
+
+  from-suc : (i d : ℕ) (m : Machine) → planFrom room marks list i (suc d) m ≡ followed (plan m (requestOf (getD list i noRegion)) room (tables marks [] [])) (planFrom room marks list (suc i) d) m i
+  unfolding planFrom
+  from-suc i d m = refl
+
+  pub from-zero : (i : ℕ) (m : Machine) → planFrom room marks list i 0 m ≡ gives m i
+  unfolding planFrom
+  from-zero i m = refl
+
+  all-none : (i : ℕ) (m : Machine) (t : Tables) → declareAll [] i m t ≡ gives m i
+  unfolding declareAll
+  all-none i m t = refl
+
+  all-one : (r : Region) (rs : List Region) (i : ℕ) (m : Machine) (t : Tables) → declareAll (r ∷ rs) i m t ≡ goesOn rs i (declare m (requestOf r) t)
+  unfolding declareAll
+  all-one r rs i m t = refl
+
+  pub plans-all :
+      (rs : List Region) (i : ℕ) (m : Machine) (t : Tables) →
+      ((k : ℕ) → k < length rs → getD list (i + k) noRegion ≡ getD rs k noRegion) →
+      shapeRight m t ≡ true →
+      length (m .areas) ≡ mostAreas →
+      length (t .bitmap) ≡ room →
+      ((q : ℕ) → getD (t .marks) q 0 ≡ getD marks q 0) → declareAll rs i m t ≡ planFrom room marks list i (length rs) m
+  plans-all [] i m t listed shape records bitmap free = all-none i m t ∙ sym (from-zero i m)
+  plans-all (r ∷ rs) i m t listed shape records bitmap free =
+      let o = declare m (requestOf r) t in
+      let here : getD list i noRegion ≡ r = subst (λ (k : ℕ). getD list k noRegion ≡ r) (add-zero i) (listed 0 (omega arith)) in
+      let e : o ≡ concluded m t (plan m (requestOf r) room (tables marks [] [])) =
+      declare-plan m (requestOf r) t shape ∙
+      ap (λ (n : ℕ). concluded m t (plan m (requestOf r) n t)) bitmap ∙
+      ap (concluded m t) (sym (plan-marks m (requestOf r) t room) ∙ plan-same m (requestOf r) (t .marks) marks free room)
+      in
+      all-one r rs i m t ∙
+      follows rs i m t (plan m (requestOf r) room (tables marks [] [])) o e (grown m (requestOf r) t shape records)
+      (λ g.
+      plans-all rs (suc i) (o .machine) (o .left)
+      (λ k h. subst (λ (n : ℕ). getD list n noRegion ≡ getD rs k noRegion) (omega arith) (listed (suc k) (omega arith))) (g .shape)
+      (g .records) (g .bitmap ∙ bitmap) (λ q. ap (λ (l : List ℕ). getD l q 0) (g .marks) ∙ free q)) ∙
+      ap (λ (x : Region). followed (plan m (requestOf x) room (tables marks [] [])) (planFrom room marks list (suc i) (length rs)) m i) (sym here) ∙
+      sym (from-suc i (length rs) m)
+
+  -- ---- a loop at region i of count
+  pub from-next :
+      (i count : ℕ) (m : Machine) →
+      i < count →
+      planFrom room marks list i (count - i) m ≡
+      followed (plan m (requestOf (getD list i noRegion)) room (tables marks [] [])) (planFrom room marks list (i + 1) (count - (i + 1))) m i
+  from-next i count m h =
+      let e : count - i ≡ suc (count - (i + 1)) = omega arith in
+      let s : suc i ≡ i + 1 = omega arith in
+      ap (λ (d : ℕ). planFrom room marks list i d m) e ∙
+      from-suc i (count - (i + 1)) m ∙
+      ap (λ (k : ℕ). followed (plan m (requestOf (getD list i noRegion)) room (tables marks [] [])) (planFrom room marks list k (count - (i + 1))) m i) s
+
+-- what holds at the head of a loop that has planned the regions before i, from the record `first` on, and has come to m
+pub record Planning (room : ℕ) (marks : List ℕ) (list : List Region) (count : ℕ) (first : Machine) (i : ℕ) (m : Machine) : Type 0 where
+  pub high : i ≤ count
+  pub memory : memoryRight (m .base .0) (m .frames) (m .order) ≡ true
+  pub rest : planFrom room marks list 0 count first ≡ planFrom room marks list i (count - i) m
+
+pub planning-start :
+    {room : ℕ} {marks : List ℕ} {list : List Region} (count : ℕ) (first : Machine) →
+    memoryRight (first .base .0) (first .frames) (first .order) ≡ true → Planning room marks list count first 0 first
+planning-start {room} {marks} {list} count first e =
+    let same : count ≡ count - 0 = omega arith in
+    record { high = omega arith; memory = e; rest = ap (λ (d : ℕ). planFrom room marks list 0 d first) same }
+
+module _ {room : ℕ} {marks : List ℕ} {list : List Region} {count : ℕ} {first : Machine} {i : ℕ} {m : Machine} (s : Planning room marks list count first i m) where
+  pub planning-end : count ≤ i → planFrom room marks list 0 count first ≡ gives m i
+  planning-end h =
+      let none : count - i ≡ 0 = omega arith in
+      s .rest ∙ ap (λ (d : ℕ). planFrom room marks list i d m) none ∙ from-zero room marks list i m
+
+  module _ (h : i < count) {p : Plan} (e : p ≡ plan m (requestOf (getD list i noRegion)) room (tables marks [] [])) where
+    goes : {q : Plan} → p ≡ q → planFrom room marks list 0 count first ≡ followed q (planFrom room marks list (i + 1) (count - (i + 1))) m i
+    goes is =
+        s .rest ∙
+        from-next room marks list i count m h ∙
+        ap (λ (x : Plan). followed x (planFrom room marks list (i + 1) (count - (i + 1))) m i) (sym e ∙ is)
+
+    pub planning-stop : {n : ℕ} → p ≡ Not n → planFrom room marks list 0 count first ≡ refuses n i
+    planning-stop is = goes is
+
+    pub planning-few : {a : Area} → p ≡ Made a → m .declared < mostAreas
+    planning-few {a} is = plan-few m (requestOf (getD list i noRegion)) (tables marks [] []) room a (sym e ∙ is)
+
+    pub planning-on : {a : Area} (x : Machine) → p ≡ Made a → x ≡ withArea m a → Planning room marks list count first (i + 1) x
+    planning-on {a} x is w =
+        subst (Planning room marks list count first (i + 1)) (sym w) (record { high = omega arith; memory = s .memory; rest = goes is })
+
+-- lists with the same regions
+followed-same : (p : Plan) (f g : Machine → Read Machine) (m : Machine) (i : ℕ) → ((x : Machine) → f x ≡ g x) → followed p f m i ≡ followed p g m i
+followed-same (Made a) f g m i same = same (withArea m a)
+followed-same (Not n) f g m i same = refl
+
+from-same :
+    (room : ℕ) (marks : List ℕ) (l k : List Region) (i d : ℕ) (m : Machine) →
+    ((j : ℕ) → j < i + d → getD l j noRegion ≡ getD k j noRegion) → planFrom room marks l i d m ≡ planFrom room marks k i d m
+from-same room marks l k i zero m same = from-zero room marks l i m ∙ sym (from-zero room marks k i m)
+from-same room marks l k i (suc d) m same =
+    from-suc room marks l i d m ∙
+    ap (λ (x : Region). followed (plan m (requestOf x) room (tables marks [] [])) (planFrom room marks l (suc i) d) m i) (same i (omega arith)) ∙
+    followed-same (plan m (requestOf (getD k i noRegion)) room (tables marks [] [])) (planFrom room marks l (suc i) d) (planFrom room marks k (suc i) d) m i
+    (λ x. from-same room marks l k (suc i) d x (λ j h. same j (omega arith))) ∙
+    sym (from-suc room marks k i d m)
+
+-- ---- the text's answer
+module _ (room : ℕ) (marks : List ℕ) (base frames order : ℕ) (text : List ℕ) (r : Regions) (e : r ≡ textOutcome (regions text)) where
+  pub read-refused : (r .refusal ≡ 0 → ⊥) → startOf (refuses (r .refusal) (r .place)) ≡ startOf (startRead room marks base frames order text)
+  read-refused h =
+      ap (λ (x : Read (List Region)). startOf (x then λ rs _. planFrom room marks rs 0 (length rs) (bareMachine base frames order)))
+      (sym (answer-refused text r e h))
+
+  pub read-given :
+      r .refusal ≡ 0 →
+      startOf (planFrom room marks (r .list) 0 (r .count) (bareMachine base frames order)) ≡ startOf (startRead room marks base frames order text)
+  read-given h =
+      let g = answer-given text r e h in
+      let m = bareMachine base frames order in
+      ap startOf
+      (from-same room marks (r .list) (held r) 0 (r .count) m (λ j u. sym (getD-take (r .count) (r .list) j noRegion (omega arith))) ∙
+      ap (λ (d : ℕ). planFrom room marks (held r) 0 d m) (sym (g .count)) ∙
+      ap (λ (x : Read (List Region)). x then λ rs _. planFrom room marks rs 0 (length rs) m) (sym (g .is)))
+
+  pub read-few : r .refusal ≡ 0 → r .count ≤ 8
+  read-few h = answer-given text r e h .few
+
+-- ---- a refusal has a number
+if-either : (P : Plan → Type 0) (b : Bool) (x y : Plan) → P x → P y → P (if b then x else y)
+if-either P true x y p q = p
+if-either P false x y p q = q
+
+module _ (P : Plan → Type 0) (m : Machine) (r : Request) (room : ℕ) (t : Tables) (refused : (n : ℕ) → 0 < n → P (Not n)) (made : (a : Area) → P (Made a)) where
+  fixed-cases : P (planFixed m r t)
+  unfolding planFixed
+  fixed-cases =
+      let a = areaFrom m r (baseFor m r) in
+      if-either P (isOutside m r) (Not 13) (if not (isVacant m t a) then Not 12 else Made a) (refused 13 (omega arith))
+      (if-either P (not (isVacant m t a)) (Not 12) (Made a) (refused 12 (omega arith)) (made a))
+
+  highest-cases : P (planHighest m r t)
+  unfolding planHighest
+  highest-cases =
+      let a = areaFrom m r (highestFit m r t * alignmentFor m r) in
+      if-either P (leb (firstMultiple m r + multiples m r) (highestFit m r t)) (Not 13) (Made a) (refused 13 (omega arith)) (made a)
+
+  rounded-cases : P (planRounded m r room t)
+  unfolding planRounded
+  rounded-cases =
+      if-either P (ltb room (wordsNeeded m + wordCount (areaFor m r t))) (Not 14) (if isFixed m r then planFixed m r t else planHighest m r t)
+      (refused 14 (omega arith)) (if-either P (isFixed m r) (planFixed m r t) (planHighest m r t) fixed-cases highest-cases)
+
+  plan-cases : P (plan m r room t)
+  unfolding plan
+  plan-cases =
+      let on = planRounded m r room t in
+      if-either P (leb mostAreas (m .declared)) (Not 10) (if badRequest r then Not 2 else if ltb (m .order) (r .order) then Not 11 else on)
+      (refused 10 (omega arith))
+      (if-either P (badRequest r) (Not 2) (if ltb (m .order) (r .order) then Not 11 else on) (refused 2 (omega arith))
+      (if-either P (ltb (m .order) (r .order)) (Not 11) on (refused 11 (omega arith)) rounded-cases))
+
+abbrev Numbered : Read Machine → Type 0
+Numbered (gives m at) = Unit {0}
+Numbered (refuses number at) = 0 < number
+
+numbered-from : (room : ℕ) (marks : List ℕ) (list : List Region) (i d : ℕ) (m : Machine) → Numbered (planFrom room marks list i d m)
+numbered-from room marks list i zero m = rw (from-zero room marks list i m) tt
+numbered-from room marks list i (suc d) m =
+    rw (from-suc room marks list i d m)
+    (plan-cases (λ p. Numbered (followed p (planFrom room marks list (suc i) d) m i)) m (requestOf (getD list i noRegion)) room (tables marks [] []) (λ n h. h)
+    (λ a. numbered-from room marks list (suc i) d (withArea m a)))
+
+numbered-then :
+    (P : List Region → Type 0) (x : Read (List Region)) (f : List Region → ℕ → Read Machine) →
+    Sound P x → ((rs : List Region) (at : ℕ) → Numbered (f rs at)) → Numbered (x then f)
+numbered-then P (gives rs at) f s all = all rs at
+numbered-then P (refuses number at) f s all = s
+
+numbered-start : (room : ℕ) (marks : List ℕ) (base frames order : ℕ) (text : List ℕ) → Numbered (startRead room marks base frames order text)
+numbered-start room marks base frames order text =
+    numbered-then (λ rs. length rs ≤ 8) (regions text) _ (sound-regions text)
+    (λ rs at. numbered-from room marks rs 0 (length rs) (bareMachine base frames order))
+
+module _ (m : Machine) (t : Tables) where
+  leaves-refused : (x : Read Machine) (s : Start) → s ≡ startOf x → (s .refusal ≡ 0 → ⊥) → booted m t x ≡ outcome m (refusedAt (s .refusal) (s .place)) t
+  leaves-refused (gives new at) s e h = absurd (h (ap (λ (k : Start). k .refusal) e))
+  leaves-refused (refuses number at) s e h = rw e
+
+  leaves-record : (x : Read Machine) (s : Start) → s ≡ startOf x → Numbered x → s .refusal ≡ 0 → booted m t x ≡ outcome (s .machine) (done 0 0) (zeroTables t)
+  leaves-record (gives new at) s e n h = rw e
+  leaves-record (refuses number at) s e n h = absurd (let z : s .refusal ≡ number = ap (λ (k : Start). k .refusal) e in omega arith)
+
+-- ---- a boot
+then-same : (x : Read (List Region)) (f g : List Region → ℕ → Read Machine) → ((rs : List Region) (at : ℕ) → f rs at ≡ g rs at) → (x then f) ≡ (x then g)
+then-same (gives rs at) f g same = same rs at
+then-same (refuses number at) f g same = refl
+
+pub fill-all : (l : List ℕ) (n v : ℕ) → length l ≡ n → fill l 0 n v ≡ replicate (length l) v
+fill-all l n v e =
+    ext-getD 0 (fill l 0 n v) (replicate (length l) v) (length-fill v l 0 n ∙ sym (length-replicate (length l) v))
+    (λ i h.
+    let long = length-fill v l 0 n in
+    getD-fill-in v l 0 n i (omega arith) (omega arith) (omega arith) ∙ sym (getD-replicate (length l) i v 0 (omega arith)))
+
+-- the test of a boot's numbers and lengths, as the code makes it
+pub bootable-is :
+    (base frames order : ℕ) (t : Tables) →
+    (memoryRight base frames order && (eqb (length (t .marks)) frames && eqb (length (t .words)) frames)) ≡ (memoryRight base frames order && lengthsRight frames t)
+unfolding lengthsRight
+bootable-is base frames order t = refl
+
+-- the record with no areas, on tables that are zero
+pub bare-shape :
+    (base frames order : ℕ) (t : Tables) →
+    (memoryRight base frames order && lengthsRight frames t) ≡ true → shapeRight (bareMachine base frames order) (zeroTables t) ≡ true
+unfolding firstWord
+bare-shape base frames order t e =
+    let b = bareMachine base frames order in
+    let lengths = lengths-facts b t (and-right (memoryRight base frames order) (lengthsRight frames t) e) in
+    facts-shape b (zeroTables t)
+    (record {
+      memory = and-left (memoryRight base frames order) (lengthsRight frames t) e;
+      declared = omega arith;
+      marks = length-replicate (length (t .marks)) 0 ∙ lengths .0;
+      words = length-replicate (length (t .words)) 0 ∙ lengths .1;
+      areas = every-none (areaFits b) 0;
+      bitmap = omega arith;
+    })
+
+module _ (m : Machine) (base frames order : ℕ) (text : List ℕ) (t : Tables) where
+  pub boot-wrong : (memoryRight base frames order && lengthsRight frames t) ≡ false → boot m base frames order text t ≡ outcome m (refusedAt 1 0) t
+  unfolding boot bootRecord
+  boot-wrong e = rw e
+
+  module _ (e : (memoryRight base frames order && lengthsRight frames t) ≡ true) where
+    abbrev zeros : List ℕ
+    zeros = replicate (length (t .marks)) 0
+
+    zero-read : (q : ℕ) → getD zeros q 0 ≡ 0
+    zero-read q =
+        below-or-not q (length (t .marks)) (λ h. getD-replicate (length (t .marks)) q 0 0 h)
+        (λ h. List·getD-eq-default zeros 0 (let long : length zeros ≡ length (t .marks) = length-replicate (length (t .marks)) 0 in omega arith))
+
+    boots : (marks : List ℕ) → ((q : ℕ) → getD marks q 0 ≡ 0) → boot m base frames order text t ≡ booted m t (startRead (length (t .bitmap)) marks base frames order text)
+    unfolding boot bootRecord
+    boots marks none =
+        rw e
+        (ap (booted m t)
+        (then-same (regions text) (λ rs _. declareAll rs 0 (bareMachine base frames order) (zeroTables t)) _
+        (λ rs at.
+        plans-all (length (t .bitmap)) marks rs rs 0 (bareMachine base frames order) (zeroTables t)
+        (λ k h. ap (λ (n : ℕ). getD rs n noRegion) (zero-add k)) (bare-shape base frames order t e) refl (length-replicate (length (t .bitmap)) 0)
+        (λ q. zero-read q ∙ sym (none q)))))
+
+    -- from what the method started with, on marks that are none
+    module _ (marks : List ℕ) (none : length marks ≡ 0) (s : Start) (start : s ≡ startOf (startRead (length (t .bitmap)) marks base frames order text)) where
+      reads-zero : (q : ℕ) → getD marks q 0 ≡ 0
+      reads-zero q = List·getD-eq-default marks 0 (omega arith)
+
+      pub boot-refused : (s .refusal ≡ 0 → ⊥) → boot m base frames order text t ≡ outcome m (refusedAt (s .refusal) (s .place)) t
+      boot-refused h = boots marks reads-zero ∙ leaves-refused m t (startRead (length (t .bitmap)) marks base frames order text) s start h
+
+      pub boot-done :
+          {m₁ w₁ b₁ : List ℕ} {back : Returned} →
+          s .refusal ≡ 0 →
+          m₁ ≡ fill (t .marks) 0 frames 0 →
+          w₁ ≡ fill (t .words) 0 frames 0 →
+          b₁ ≡ fill (t .bitmap) 0 (length (t .bitmap)) 0 → back ≡ returned (s .machine) (done 0 0) → outcomeOf back m₁ w₁ b₁ ≡ boot m base frames order text t
+      boot-done {m₁} {w₁} {b₁} h em ew eb k =
+          let lengths = lengths-facts (bareMachine base frames order) t (and-right (memoryRight base frames order) (lengthsRight frames t) e) in
+          let x = startRead (length (t .bitmap)) marks base frames order text in
+          let zeros-m : m₁ ≡ replicate (length (t .marks)) 0 = em ∙ fill-all (t .marks) frames 0 (lengths .0) in
+          let zeros-w : w₁ ≡ replicate (length (t .words)) 0 = ew ∙ fill-all (t .words) frames 0 (lengths .1) in
+          let zeros-b : b₁ ≡ replicate (length (t .bitmap)) 0 = eb ∙ fill-all (t .bitmap) (length (t .bitmap)) 0 refl in
+          ap (λ (y : Returned). outcomeOf y m₁ w₁ b₁) k ∙
+          ap (λ (y : List ℕ). outcome (s .machine) (done 0 0) (tables y w₁ b₁)) zeros-m ∙
+          ap (λ (y : List ℕ). outcome (s .machine) (done 0 0) (tables (replicate (length (t .marks)) 0) y b₁)) zeros-w ∙
+          ap (λ (y : List ℕ). outcome (s .machine) (done 0 0) (tables (replicate (length (t .marks)) 0) (replicate (length (t .words)) 0) y)) zeros-b ∙
+          sym (boots marks reads-zero ∙ leaves-record m t x s start (numbered-start (length (t .bitmap)) marks base frames order text) h)

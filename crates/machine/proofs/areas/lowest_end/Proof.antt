@@ -1,0 +1,42 @@
+-- `machine::areas::lowest_end` meets its contract: the two cases are those of the greater number. Assumes nothing.
+use Rattle.machine.proofs.Divisions.{up-high}
+use Rattle.machine.specs.Declare.{roundUp}
+use mathlib.Core.Path.{_≡_, ap, _∙_}
+use Prim.Native.Nat.{ℕ, _+_, _*_, max}
+use native.Mathlib.Omega.{arith}
+use borrow.Author.Needs.{needs}
+use Rattle.machine.proofs.areas.lowest_end.Statement.{statement}
+use Rattle.machine.proofs.areas.lowest_end.Tie as tie
+
+mul-start : tie.Need-mul-start
+mul-start c = search needs
+
+round-up-requires : tie.Need-round-up-requires
+round-up-requires c κs = search needs
+
+add-result : tie.Need-add-result
+add-result c = let x = c .before .before .before .before .args in omega (arith, c .before .round-up .ensures, up-high (x .first * 4096) (x .rounded .alignment) (omega arith))
+
+returns : tie.Need-returns
+returns c = let x = c .before .before .before .before .args in let e : x .first * 4096 ≡ max (x .rounded .base) (x .first * 4096) = omega arith in ap (λ (y : ℕ). y + x .rounded .size) (c .before .round-up .ensures ∙ ap (λ (y : ℕ). roundUp y (x .rounded .alignment)) e)
+
+round-up-requires-2 : tie.Need-round-up-requires-2
+round-up-requires-2 c κs = search needs
+
+add-result-2 : tie.Need-add-result-2
+add-result-2 c = let x = c .before .before .before .before .args in omega (arith, c .before .round-up2 .ensures, up-high (x .rounded .base) (x .rounded .alignment) (omega arith))
+
+returns-2 : tie.Need-returns-2
+returns-2 c = let x = c .before .before .before .before .args in let e : x .rounded .base ≡ max (x .rounded .base) (x .first * 4096) = omega arith in ap (λ (y : ℕ). y + x .rounded .size) (c .before .round-up2 .ensures ∙ ap (λ (y : ℕ). roundUp y (x .rounded .alignment)) e)
+
+pub lowest-end-spec : {M : Type 1} → statement M
+lowest-end-spec =
+    tie.close
+    (tie.spec
+    mul-start
+    round-up-requires
+    add-result
+    returns
+    round-up-requires-2
+    add-result-2
+    returns-2)
