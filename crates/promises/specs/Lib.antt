@@ -1,0 +1,4 @@
+pub mod Declares
+pub mod Grants
+pub mod Moves
+pub mod Pages
