@@ -1,0 +1,231 @@
+// Document 01, "Replay records": one record read from bytes, and in `lines` the text that is written for it.
+ghost use mathlib.Core.Path.{_≡_};
+ghost use Prim.Native.Nat.{_+_, _≤_, _<_};
+ghost use lib.ListN.{length};
+ghost use Rattle.records.specs.Records.{little, bodyLength, bodyAt, decodeAt};
+
+pub mod lines;
+
+// A record's kind with the numbers of its body.
+pub enum Record {
+    Boot {
+        base: u64,
+        frames: u64,
+        order: u64,
+    },
+    PutMovable {
+        name: u64,
+    },
+    PutFixed {
+        name: u64,
+    },
+    Drop {
+        name: u64,
+    },
+    Pin {
+        name: u64,
+    },
+    Unpin {
+        name: u64,
+    },
+    Store {
+        name: u64,
+        word: u64,
+    },
+    Read {
+        name: u64,
+    },
+    Grant {
+        area: u64,
+        order: u64,
+        count: u64,
+    },
+    Release {
+        area: u64,
+        frame: u64,
+        count: u64,
+    },
+    DeviceStore {
+        frame: u64,
+        word: u64,
+    },
+    DeviceRead {
+        frame: u64,
+    },
+    Declare {
+        base: u64,
+        size: u64,
+        limit: u64,
+        alignment: u64,
+        order: u64,
+        fixed: bool,
+    },
+}
+
+// What stands at an offset.
+pub enum Decoded {
+    // A whole record, and its length with the byte of kind.
+    Whole(Record, usize),
+    // A byte that is no kind.
+    Unknown,
+    // The bytes end before the body does.
+    Cut,
+}
+
+// The length of a body, which the kind fixes; 0 where the kind is unknown, since no body is empty.
+pub fn body_length(kind: u8) -> usize
+    ensures { λ r. ⌜ r ≡ bodyLength kind ⌝ }
+{
+    match kind {
+        0 => 13,
+        1 => 4,
+        2 => 4,
+        3 => 4,
+        4 => 4,
+        5 => 4,
+        6 => 12,
+        7 => 4,
+        8 => 6,
+        9 => 13,
+        10 => 16,
+        11 => 8,
+        12 => 34,
+        _ => 0,
+    }
+}
+
+// The number in the `width` bytes from `at` on, the lowest byte first. Every width is read by this loop.
+fn number(bytes: &[u8], at: usize, width: usize) -> u64
+    requires { ⌜ (at + width ≤ length (now bytes)) × (width ≤ 8) ⌝ }
+    ensures { λ r. ⌜ r ≡ little (now (bytes .entry)) at width ⌝ }
+{
+    let mut value: u64 = 0;
+    let mut i = width;
+    while 0 < i {
+        i -= 1;
+        let byte = bytes[at + i] as u64;
+        value = value * 256 + byte;
+    }
+    value
+}
+
+fn boot(bytes: &[u8], at: usize) -> Record
+    requires { ⌜ at + 13 ≤ length (now bytes) ⌝ }
+    ensures { λ r. ⌜ r ≡ bodyAt 0 (now (bytes .entry)) at ⌝ }
+{
+    Record::Boot {
+        base: number(bytes, at, 8),
+        frames: number(bytes, at + 8, 4),
+        order: number(bytes, at + 12, 1),
+    }
+}
+
+fn store(bytes: &[u8], at: usize) -> Record
+    requires { ⌜ at + 12 ≤ length (now bytes) ⌝ }
+    ensures { λ r. ⌜ r ≡ bodyAt 6 (now (bytes .entry)) at ⌝ }
+{
+    Record::Store {
+        name: number(bytes, at, 4),
+        word: number(bytes, at + 4, 8),
+    }
+}
+
+fn grant(bytes: &[u8], at: usize) -> Record
+    requires { ⌜ at + 6 ≤ length (now bytes) ⌝ }
+    ensures { λ r. ⌜ r ≡ bodyAt 8 (now (bytes .entry)) at ⌝ }
+{
+    Record::Grant {
+        area: number(bytes, at, 1),
+        order: number(bytes, at + 1, 1),
+        count: number(bytes, at + 2, 4),
+    }
+}
+
+fn release(bytes: &[u8], at: usize) -> Record
+    requires { ⌜ at + 13 ≤ length (now bytes) ⌝ }
+    ensures { λ r. ⌜ r ≡ bodyAt 9 (now (bytes .entry)) at ⌝ }
+{
+    Record::Release {
+        area: number(bytes, at, 1),
+        frame: number(bytes, at + 1, 8),
+        count: number(bytes, at + 9, 4),
+    }
+}
+
+fn device_store(bytes: &[u8], at: usize) -> Record
+    requires { ⌜ at + 16 ≤ length (now bytes) ⌝ }
+    ensures { λ r. ⌜ r ≡ bodyAt 10 (now (bytes .entry)) at ⌝ }
+{
+    Record::DeviceStore {
+        frame: number(bytes, at, 8),
+        word: number(bytes, at + 8, 8),
+    }
+}
+
+fn declare(bytes: &[u8], at: usize) -> Record
+    requires { ⌜ at + 34 ≤ length (now bytes) ⌝ }
+    ensures { λ r. ⌜ r ≡ bodyAt 12 (now (bytes .entry)) at ⌝ }
+{
+    Record::Declare {
+        base: number(bytes, at, 8),
+        size: number(bytes, at + 8, 8),
+        limit: number(bytes, at + 16, 8),
+        alignment: number(bytes, at + 24, 8),
+        order: number(bytes, at + 32, 1),
+        fixed: number(bytes, at + 33, 1) != 0,
+    }
+}
+
+// The record of a known kind whose whole body starts at `at`.
+fn body(bytes: &[u8], at: usize, kind: u8) -> Record
+    requires { ⌜ (at + bodyLength kind ≤ length (now bytes)) × (kind < 13) ⌝ }
+    ensures { λ r. ⌜ r ≡ bodyAt kind (now (bytes .entry)) at ⌝ }
+{
+    match kind {
+        0 => boot(bytes, at),
+        1 => Record::PutMovable {
+            name: number(bytes, at, 4),
+        },
+        2 => Record::PutFixed {
+            name: number(bytes, at, 4),
+        },
+        3 => Record::Drop {
+            name: number(bytes, at, 4),
+        },
+        4 => Record::Pin {
+            name: number(bytes, at, 4),
+        },
+        5 => Record::Unpin {
+            name: number(bytes, at, 4),
+        },
+        6 => store(bytes, at),
+        7 => Record::Read {
+            name: number(bytes, at, 4),
+        },
+        8 => grant(bytes, at),
+        9 => release(bytes, at),
+        10 => device_store(bytes, at),
+        11 => Record::DeviceRead {
+            frame: number(bytes, at, 8),
+        },
+        _ => declare(bytes, at),
+    }
+}
+
+// The record that begins at `at`. Where no byte stands at `at`, its kind is cut off too.
+pub fn decode(bytes: &[u8], at: usize) -> Decoded
+    ensures { λ r. ⌜ r ≡ decodeAt (now (bytes .entry)) at ⌝ }
+{
+    if bytes.len() <= at {
+        return Decoded::Cut;
+    }
+    let kind = bytes[at];
+    let length = body_length(kind);
+    if length == 0 {
+        return Decoded::Unknown;
+    }
+    if bytes.len() - (at + 1) < length {
+        return Decoded::Cut;
+    }
+    Decoded::Whole(body(bytes, at + 1, kind), length + 1)
+}
