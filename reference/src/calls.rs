@@ -1,0 +1,101 @@
+//! A call as a value, and a state that such calls are made on.
+
+use crate::machine::{Answer, Machine, Tables};
+use crate::Request;
+
+/// One call with its arguments.
+#[derive(Clone, Debug, PartialEq, Eq)]
+pub enum Call {
+    Boot { base: u64, frames: u64, order: u64, text: Vec<u8> },
+    PutMovable { name: u64 },
+    PutFixed { name: u64 },
+    Drop { name: u64 },
+    Pin { name: u64 },
+    Unpin { name: u64 },
+    Store { name: u64, word: u64 },
+    Read { name: u64 },
+    Grant { area: u64, count: u64, align: u64 },
+    Release { area: u64, frame: u64, count: u64 },
+    DeviceStore { frame: u64, word: u64 },
+    DeviceRead { frame: u64 },
+    Declare(Request),
+}
+
+impl Call {
+    /// The kind byte of the call's replay record.
+    pub fn kind(&self) -> u8 {
+        match self {
+            Call::Boot { .. } => 0,
+            Call::PutMovable { .. } => 1,
+            Call::PutFixed { .. } => 2,
+            Call::Drop { .. } => 3,
+            Call::Pin { .. } => 4,
+            Call::Unpin { .. } => 5,
+            Call::Store { .. } => 6,
+            Call::Read { .. } => 7,
+            Call::Grant { .. } => 8,
+            Call::Release { .. } => 9,
+            Call::DeviceStore { .. } => 10,
+            Call::DeviceRead { .. } => 11,
+            Call::Declare(_) => 12,
+        }
+    }
+}
+
+/// Makes one call on a record and lent tables.
+pub fn apply(machine: &mut Machine, t: &mut Tables, call: &Call) -> Answer {
+    match call {
+        Call::Boot { base, frames, order, text } => machine.boot(t, *base, *frames, *order, text),
+        Call::PutMovable { name } => machine.put_movable(t, *name),
+        Call::PutFixed { name } => machine.put_fixed(t, *name),
+        Call::Drop { name } => machine.drop_page(t, *name),
+        Call::Pin { name } => machine.pin(t, *name),
+        Call::Unpin { name } => machine.unpin(t, *name),
+        Call::Store { name, word } => machine.store(t, *name, *word),
+        Call::Read { name } => machine.read(t, *name),
+        Call::Grant { area, count, align } => machine.grant(t, *area, *count, *align),
+        Call::Release { area, frame, count } => machine.release(t, *area, *frame, *count),
+        Call::DeviceStore { frame, word } => machine.device_store(t, *frame, *word),
+        Call::DeviceRead { frame } => machine.device_read(t, *frame),
+        Call::Declare(request) => machine.declare(t, request),
+    }
+}
+
+/// A record together with its own tables.
+#[derive(Clone, Debug, PartialEq, Eq)]
+pub struct State {
+    pub machine: Machine,
+    pub marks: Vec<u32>,
+    pub words: Vec<u64>,
+    pub bitmap: Vec<u64>,
+}
+
+impl State {
+    /// A fresh record with zero tables of the given lengths.
+    pub fn fresh(frames: usize, bitmap_words: usize) -> State {
+        State {
+            machine: Machine::fresh(),
+            marks: vec![0; frames],
+            words: vec![0; frames],
+            bitmap: vec![0; bitmap_words],
+        }
+    }
+
+    pub fn apply(&mut self, call: &Call) -> Answer {
+        let mut t = Tables {
+            marks: &mut self.marks,
+            words: &mut self.words,
+            bitmap: &mut self.bitmap,
+        };
+        apply(&mut self.machine, &mut t, call)
+    }
+
+    pub fn shape_is_right(&mut self) -> bool {
+        let t = Tables {
+            marks: &mut self.marks,
+            words: &mut self.words,
+            bitmap: &mut self.bitmap,
+        };
+        self.machine.shape_is_right(&t)
+    }
+}

@@ -1,0 +1,151 @@
+//! Device calls: grant, release, device store and device read.
+
+use crate::machine::{answer, field_of, kind, kind_of, mark_of, refusal, Outcome};
+use crate::machine::{Answer, Machine, Tables};
+use std::ops::Range;
+
+impl Machine {
+    /// Grants `count` frames of an area, first frame a multiple of 2^`align`.
+    pub fn grant(&self, t: &mut Tables, area: u64, count: u64, align: u64) -> Answer {
+        answer(self.try_grant(t, area, count, align))
+    }
+
+    pub fn release(&self, t: &mut Tables, area: u64, frame: u64, count: u64) -> Answer {
+        answer(self.try_release(t, area, frame, count))
+    }
+
+    pub fn device_store(&self, t: &mut Tables, frame: u64, word: u64) -> Answer {
+        answer(self.granted_place(t, frame).map(|place| {
+            t.words[place] = word;
+            (0, 0)
+        }))
+    }
+
+    pub fn device_read(&self, t: &mut Tables, frame: u64) -> Answer {
+        answer(self.granted_place(t, frame).map(|place| (t.words[place], 0)))
+    }
+
+    /// The checks of both device word calls: 1, 2, 3.
+    fn granted_place(&self, t: &Tables, frame: u64) -> Result<usize, u64> {
+        self.check_shape(t)?;
+        if frame < self.base || frame >= self.end() {
+            return Err(refusal::ARGUMENT);
+        }
+        let place = self.place(frame);
+        match kind_of(t.marks[place]) {
+            kind::GRANT_FIRST | kind::GRANT_LATER => Ok(place),
+            _ => Err(refusal::NOTHING_THERE),
+        }
+    }
+
+    fn try_grant(&self, t: &mut Tables, area: u64, count: u64, align: u64) -> Outcome {
+        self.check_shape(t)?;
+        if area >= self.declared || count == 0 || align > Machine::MAX_ALIGN_ORDER {
+            return Err(refusal::ARGUMENT);
+        }
+        let area = area as usize;
+        let bit = self.first_run(t, area, count, align).ok_or(refusal::NO_RUN)?;
+        let run = self.run_places(area, bit, count);
+        let moved = self.move_out(t, run.clone())?;
+        self.write_grant(t, run.clone(), count);
+        self.write_bits(t, area, bit, count, true);
+        Ok((self.frame(run.start), moved))
+    }
+
+    /// The bit at which the lowest grantable candidate starts.
+    fn first_run(&self, t: &Tables, area: usize, count: u64, align: u64) -> Option<u64> {
+        (0..self.areas[area].bits()).find(|&bit| {
+            self.is_candidate(t, area, bit, count, align) && self.is_grantable(t, area, bit, count)
+        })
+    }
+
+    fn is_candidate(&self, t: &Tables, area: usize, bit: u64, count: u64, align: u64) -> bool {
+        let needed = self.bits_for(area, count);
+        self.bit_frame(area, bit) % (1 << align) == 0
+            && needed <= self.areas[area].bits() - bit
+            && (bit..bit + needed).all(|b| !self.bit_is_set(t, area, b))
+    }
+
+    fn is_grantable(&self, t: &Tables, area: usize, bit: u64, count: u64) -> bool {
+        self.run_places(area, bit, count)
+            .all(|place| matches!(kind_of(t.marks[place]), kind::FREE | kind::MOVABLE))
+    }
+
+    /// How many bits cover `count` frames.
+    fn bits_for(&self, area: usize, count: u64) -> u64 {
+        count.div_ceil(1 << self.areas[area].order)
+    }
+
+    /// The physical frame at which a bit starts.
+    fn bit_frame(&self, area: usize, bit: u64) -> u64 {
+        self.areas[area].base + (bit << self.areas[area].order)
+    }
+
+    /// Places of a run that fits its area.
+    fn run_places(&self, area: usize, bit: u64, count: u64) -> Range<usize> {
+        let first = self.place(self.bit_frame(area, bit));
+        first..first + count as usize
+    }
+
+    /// Moves the run's movable pages to the lowest free ordinary frames and
+    /// answers how many there were; with too few targets nothing changes.
+    fn move_out(&self, t: &mut Tables, run: Range<usize>) -> Result<u64, u64> {
+        let from: Vec<usize> = run.filter(|&p| kind_of(t.marks[p]) == kind::MOVABLE).collect();
+        let to: Vec<usize> = self.free_ordinary(t.marks).take(from.len()).collect();
+        if to.len() < from.len() {
+            return Err(refusal::NO_TARGET);
+        }
+        for (&source, &target) in from.iter().zip(&to) {
+            t.marks[target] = t.marks[source];
+            t.words[target] = t.words[source];
+        }
+        Ok(from.len() as u64)
+    }
+
+    fn write_grant(&self, t: &mut Tables, run: Range<usize>, count: u64) {
+        t.marks[run.clone()].fill(mark_of(0, kind::GRANT_LATER));
+        t.marks[run.start] = mark_of(count, kind::GRANT_FIRST);
+        t.words[run].fill(0);
+    }
+
+    fn write_bits(&self, t: &mut Tables, area: usize, bit: u64, count: u64, set: bool) {
+        for b in bit..bit + self.bits_for(area, count) {
+            self.write_bit(t, area, b, set);
+        }
+    }
+
+    fn try_release(&self, t: &mut Tables, area: u64, frame: u64, count: u64) -> Outcome {
+        self.check_shape(t)?;
+        if area >= self.declared || count == 0 || !self.range_in_area(area, frame, count) {
+            return Err(refusal::ARGUMENT);
+        }
+        let area = area as usize;
+        self.check_granted_run(t, area, frame, count)?;
+        let bit = (frame - self.areas[area].base) >> self.areas[area].order;
+        let run = self.run_places(area, bit, count);
+        t.marks[run.clone()].fill(0);
+        t.words[run].fill(0);
+        self.write_bits(t, area, bit, count, false);
+        Ok((0, 0))
+    }
+
+    fn range_in_area(&self, area: u64, frame: u64, count: u64) -> bool {
+        let area = &self.areas[area as usize];
+        area.holds(frame) && count <= area.end() - frame
+    }
+
+    /// 3 and 9 of release, for a range inside the area.
+    fn check_granted_run(&self, t: &Tables, area: usize, frame: u64, count: u64) -> Result<(), u64> {
+        let offset = frame - self.areas[area].base;
+        let first = self.place(frame);
+        let mark = t.marks[first];
+        if offset % (1 << self.areas[area].order) != 0 || kind_of(mark) != kind::GRANT_FIRST {
+            return Err(refusal::NOTHING_THERE);
+        }
+        let later = &t.marks[first + 1..first + count as usize];
+        if field_of(mark) != count || later.iter().any(|&m| kind_of(m) != kind::GRANT_LATER) {
+            return Err(refusal::RELEASE);
+        }
+        Ok(())
+    }
+}

@@ -1,0 +1,16 @@
+//! A plain implementation of document 01: the machine record, its calls, the
+//! regions text and the replay of records. It uses no tricks on purpose: it is
+//! here to be compared, call by call, with the proved library.
+
+pub mod areas;
+pub mod calls;
+pub mod devices;
+pub mod machine;
+pub mod pages;
+pub mod regions;
+pub mod replay;
+pub mod sample;
+
+pub use areas::Request;
+pub use calls::{Call, State};
+pub use machine::{Answer, Area, Machine, Tables};

@@ -1,0 +1,562 @@
+//! Both sides of every limit.
+
+use reference::machine::mark_of;
+use reference::regions::parse;
+use reference::replay::{body_length, encode, replay};
+use reference::{Answer, Area, Call, Machine, Request, State};
+
+const PAGE: u64 = 4096;
+
+fn ask(state: &mut State, call: Call) -> (u64, u64, u64) {
+    let Answer { refusal, first, second } = state.apply(&call);
+    (refusal, first, second)
+}
+
+fn refusal(state: &State, call: Call) -> u64 {
+    state.clone().apply(&call).refusal
+}
+
+fn boot(base: u64, frames: u64, order: u64) -> Call {
+    Call::Boot { base, frames, order, text: Vec::new() }
+}
+
+/// P 8, n 32, b 1 with areas 16..24 (k 0) and 32..36 (k 1).
+fn two_areas() -> State {
+    let mut state = State::fresh(32, 3);
+    let machine = &mut state.machine;
+    (machine.base, machine.frames, machine.order, machine.declared) = (8, 32, 1, 2);
+    machine.areas[0] = Area { base: 16, count: 8, order: 0 };
+    machine.areas[1] = Area { base: 32, count: 4, order: 1 };
+    state
+}
+
+fn shape_after(change: impl Fn(&mut State)) -> u64 {
+    let mut state = two_areas();
+    change(&mut state);
+    state.apply(&Call::Read { name: 0 }).refusal
+}
+
+#[test]
+fn boot_numbers() {
+    let top = 1u64 << 36;
+    for (base, frames, order, expected) in [
+        (1, 1, 0, 0),
+        (0, 1, 0, 1),
+        (top - 1, 1, 0, 0),
+        (top, 1, 0, 1),
+        (u64::MAX, 1, 0, 1),
+        (1, 65_536, 10, 0),
+        (1, 65_537, 0, 1),
+        (top - 65_536, 65_536, 0, 0),
+        (top - 65_535, 65_536, 0, 1),
+        (1, 0, 0, 1),
+        (1, 4, 11, 1),
+        (1, 4, u64::MAX, 1),
+    ] {
+        let mut state = State::fresh(frames as usize, 0);
+        assert_eq!(ask(&mut state, boot(base, frames, order)), (expected, 0, 0));
+    }
+    assert_eq!(refusal(&State::fresh(4, 0), boot(1, u64::MAX, 0)), 1);
+}
+
+#[test]
+fn boot_lengths() {
+    for (marks, words) in [(3, 4), (5, 4), (4, 3), (4, 5), (0, 0)] {
+        let mut state = State::fresh(4, 0);
+        state.marks.resize(marks, 9);
+        state.words.resize(words, 9);
+        assert_eq!(ask(&mut state, boot(1, 4, 0)), (1, 0, 0));
+    }
+    // The record given is ignored, whatever it holds.
+    let mut state = State::fresh(4, 2);
+    state.machine = Machine { base: 9, frames: u64::MAX, order: 99, declared: 99, ..two_areas().machine };
+    state.bitmap = vec![5, 6];
+    state.marks = vec![7; 4];
+    assert_eq!(ask(&mut state, boot(1, 4, 0)), (0, 0, 0));
+    assert_eq!((state.marks, state.bitmap), (vec![0; 4], vec![0; 2]));
+    assert_eq!(state.machine, Machine { base: 1, frames: 4, ..Machine::fresh() });
+}
+
+#[test]
+fn a_fresh_record_gets_one() {
+    for frames in [0, 1, 4] {
+        let state = State::fresh(frames, 4);
+        assert_eq!(refusal(&state, Call::Read { name: 0 }), 1);
+        assert_eq!(refusal(&state, Call::Grant { area: 0, count: 0, align: 0 }), 1);
+        assert_eq!(refusal(&state, Call::Declare(Request::default())), 1);
+        assert_eq!(refusal(&state, Call::DeviceRead { frame: 0 }), 1);
+    }
+}
+
+#[test]
+fn shapes_that_are_right() {
+    assert_eq!(shape_after(|_| ()), 2);
+    assert_eq!(shape_after(|s| s.bitmap.truncate(2)), 2);
+    assert_eq!(shape_after(|s| s.machine.areas[0].order = 1), 2);
+    assert_eq!(shape_after(|s| s.machine.areas[0] = Area { base: 8, count: 24, order: 0 }), 2);
+    assert_eq!(shape_after(|s| s.machine.areas[1] = Area { base: 24, count: 16, order: 0 }), 2);
+    assert_eq!(shape_after(|s| s.machine.areas[2].base = u64::MAX), 2);
+    assert_eq!(shape_after(|s| s.machine.declared = 0), 2);
+}
+
+#[test]
+fn shapes_that_are_wrong() {
+    assert_eq!(shape_after(|s| s.bitmap.truncate(1)), 1);
+    assert_eq!(shape_after(|s| s.machine.base = 0), 1);
+    assert_eq!(shape_after(|s| s.machine.frames = 31), 1);
+    assert_eq!(shape_after(|s| s.machine.order = 11), 1);
+    assert_eq!(shape_after(|s| s.machine.declared = 3), 1);
+    assert_eq!(shape_after(|s| s.machine.declared = 9), 1);
+    assert_eq!(shape_after(|s| s.machine.declared = u64::MAX), 1);
+    assert_eq!(shape_after(|s| s.marks.push(0)), 1);
+    assert_eq!(shape_after(|s| s.words.truncate(31)), 1);
+    assert_eq!(shape_after(|s| s.machine.areas[0].count = 0), 1);
+    assert_eq!(shape_after(|s| s.machine.areas[0].order = 2), 1);
+    assert_eq!(shape_after(|s| s.machine.areas[0].order = u64::MAX), 1);
+    assert_eq!(shape_after(|s| s.machine.areas[0].base = 17), 1);
+    assert_eq!(shape_after(|s| s.machine.areas[0].count = 7), 1);
+    assert_eq!(shape_after(|s| s.machine.areas[0].base = 6), 1);
+    assert_eq!(shape_after(|s| s.machine.areas[1].count = 10), 1);
+    assert_eq!(shape_after(|s| s.machine.areas[1].count = u64::MAX - 1), 1);
+    assert_eq!(shape_after(|s| s.machine.areas[1].base = u64::MAX - 1), 1);
+    assert_eq!(shape_after(|s| s.machine.areas[0] = Area { base: 8, count: 26, order: 0 }), 1);
+    assert_eq!(shape_after(|s| s.machine.areas[1] = s.machine.areas[0]), 1);
+}
+
+#[test]
+fn names() {
+    let mut state = two_areas();
+    let max = Machine::MAX_NAME;
+    for (name, expected) in [(0, 2), (1, 0), (1, 4), (max, 0), (max, 4), (max + 1, 2), (1 << 32, 2), (u64::MAX, 2)] {
+        assert_eq!(ask(&mut state, Call::PutMovable { name }).0, expected);
+    }
+    // 2^32 + 1 must not be taken for 1.
+    assert_eq!(refusal(&state, Call::Read { name: (1 << 32) + 1 }), 2);
+    assert_eq!(refusal(&state, Call::Read { name: 2 }), 3);
+    assert_eq!(refusal(&state, Call::Read { name: max }), 0);
+}
+
+#[test]
+fn a_name_that_stands_twice_is_the_lowest() {
+    let mut state = two_areas();
+    state.marks[3] = mark_of(5, 1);
+    state.marks[2] = mark_of(5, 4);
+    state.marks[1] = mark_of(5, 6);
+    state.marks[7] = mark_of(5, 2);
+    state.words[3] = 30;
+    assert_eq!(ask(&mut state, Call::Read { name: 5 }), (0, 11, 30));
+    assert_eq!(ask(&mut state, Call::Drop { name: 5 }), (0, 0, 0));
+    assert_eq!(ask(&mut state, Call::Read { name: 5 }), (0, 15, 0));
+    assert_eq!(refusal(&state, Call::Drop { name: 5 }), 5);
+    assert_eq!(refusal(&state, Call::Store { name: 5, word: 1 }), 5);
+    assert_eq!(refusal(&state, Call::Pin { name: 5 }), 5);
+    assert_eq!(ask(&mut state, Call::Unpin { name: 5 }), (0, 0, 0));
+    assert_eq!(state.marks[7], mark_of(5, 1));
+}
+
+#[test]
+fn puts_to_the_last_frame() {
+    let mut state = two_areas();
+    // A free mark may carry a field; it is still free and is overwritten.
+    state.marks[0] = mark_of(9, 0);
+    let ordinary: Vec<u64> = (8..16).chain(24..32).chain(36..40).collect();
+    for (i, &frame) in ordinary.iter().enumerate() {
+        assert_eq!(ask(&mut state, Call::PutFixed { name: i as u64 + 1 }), (0, frame, 0));
+    }
+    assert_eq!(ask(&mut state, Call::PutFixed { name: 100 }), (6, 0, 0));
+    // Unused kinds and the bitmap do not matter to a put.
+    state.marks[8] = 6;
+    state.marks[9] = 7;
+    state.bitmap.fill(u64::MAX);
+    for (name, frame) in (101..).zip((18..24).chain(32..36)) {
+        assert_eq!(ask(&mut state, Call::PutMovable { name }), (0, frame, 0));
+    }
+    assert_eq!(ask(&mut state, Call::PutMovable { name: 200 }), (6, 0, 0));
+}
+
+#[test]
+fn grant_arguments() {
+    let state = two_areas();
+    let grant = |area, count, align| refusal(&state, Call::Grant { area, count, align });
+    assert_eq!(grant(1, 1, 0), 0);
+    assert_eq!(grant(2, 1, 0), 2);
+    assert_eq!(grant(u64::MAX, 1, 0), 2);
+    assert_eq!(grant(0, 0, 0), 2);
+    assert_eq!(grant(0, 1, 16), 7);
+    assert_eq!(grant(0, 1, 17), 2);
+    assert_eq!(grant(0, 1, u64::MAX), 2);
+    assert_eq!(grant(0, 8, 4), 0);
+    assert_eq!(grant(0, 9, 0), 7);
+    assert_eq!(grant(0, u64::MAX, 0), 7);
+    assert_eq!(grant(1, u64::MAX, 0), 7);
+    assert_eq!(grant(1, 4, 5), 0);
+    assert_eq!(grant(1, 1, 6), 7);
+}
+
+#[test]
+fn grants_go_past_pages_that_stay() {
+    for kind in [2, 3, 4, 5, 6, 7] {
+        let mut state = two_areas();
+        state.marks[8] = mark_of(3, kind);
+        assert_eq!(ask(&mut state, Call::Grant { area: 0, count: 2, align: 0 }), (0, 17, 0));
+    }
+    let mut state = two_areas();
+    state.bitmap[0] = 0b1;
+    assert_eq!(ask(&mut state, Call::Grant { area: 0, count: 7, align: 0 }), (0, 17, 0));
+    assert_eq!(state.bitmap[0], 0xff);
+}
+
+#[test]
+fn a_grant_needs_just_enough_targets() {
+    let mut state = two_areas();
+    state.marks.fill(mark_of(1, 3));
+    (8..11).for_each(|place| state.marks[place] = mark_of(50 + place as u64, 1));
+    (8..11).for_each(|place| state.words[place] = place as u64);
+    state.marks[30] = 0;
+    state.marks[31] = mark_of(77, 0);
+    assert_eq!(refusal(&state, Call::Grant { area: 0, count: 3, align: 0 }), 8);
+    assert_eq!(ask(&mut state, Call::Grant { area: 0, count: 2, align: 0 }), (0, 16, 2));
+    assert_eq!(state.marks[30..], [mark_of(58, 1), mark_of(59, 1)]);
+    assert_eq!(state.words[30..], [8, 9]);
+    assert_eq!((state.marks[10], state.words[10]), (mark_of(60, 1), 10));
+}
+
+#[test]
+fn release_checks() {
+    let mut state = two_areas();
+    assert_eq!(ask(&mut state, Call::Grant { area: 1, count: 3, align: 0 }), (0, 32, 0));
+    assert_eq!(state.bitmap, vec![0, 0b11, 0]);
+    state.bitmap = vec![u64::MAX, u64::MAX, u64::MAX];
+    let release = |area, frame, count| Call::Release { area, frame, count };
+    let says = |area, frame, count| refusal(&state, release(area, frame, count));
+    assert_eq!(says(2, 32, 3), 2);
+    assert_eq!(says(1, 32, 0), 2);
+    assert_eq!(says(1, 31, 3), 2);
+    assert_eq!(says(1, 32, 5), 2);
+    assert_eq!(says(1, 36, 1), 2);
+    assert_eq!(says(1, 35, u64::MAX), 2);
+    assert_eq!(says(1, u64::MAX, 2), 2);
+    assert_eq!(says(0, 32, 3), 2);
+    assert_eq!(says(1, 33, 1), 3);
+    assert_eq!(says(1, 34, 1), 3);
+    assert_eq!(says(1, 32, 4), 9);
+    assert_eq!(says(1, 32, 2), 9);
+    let mut damaged = state.clone();
+    damaged.marks[26] = 4;
+    assert_eq!(refusal(&damaged, release(1, 32, 3)), 9);
+    // A count-4 mark at an odd frame is off the boundary of a 2-frame bit.
+    damaged.marks[25] = mark_of(1, 4);
+    assert_eq!(refusal(&damaged, release(1, 33, 1)), 3);
+    assert_eq!(ask(&mut state, release(1, 32, 3)), (0, 0, 0));
+    assert_eq!(state.bitmap, vec![u64::MAX, u64::MAX - 3, u64::MAX]);
+    assert_eq!(state.marks, vec![0; 32]);
+}
+
+#[test]
+fn device_words() {
+    let mut state = two_areas();
+    state.marks[0] = mark_of(1, 4);
+    state.marks[31] = mark_of(9, 5);
+    let read = |frame| Call::DeviceRead { frame };
+    assert_eq!(refusal(&state, read(7)), 2);
+    assert_eq!(refusal(&state, read(40)), 2);
+    assert_eq!(refusal(&state, read(u64::MAX)), 2);
+    assert_eq!(refusal(&state, read(9)), 3);
+    assert_eq!(ask(&mut state, Call::DeviceStore { frame: 8, word: 6 }), (0, 0, 0));
+    assert_eq!(ask(&mut state, Call::DeviceStore { frame: 39, word: u64::MAX }), (0, 0, 0));
+    assert_eq!(ask(&mut state, read(8)), (0, 6, 0));
+    assert_eq!(ask(&mut state, read(39)), (0, u64::MAX, 0));
+}
+
+fn request(base: u64, size: u64, limit: u64, alignment: u64) -> Request {
+    Request { base, size, limit, alignment, order: 0, fixed: false }
+}
+
+fn declare(state: &State, request: Request) -> (u64, u64, u64) {
+    ask(&mut state.clone(), Call::Declare(request))
+}
+
+#[test]
+fn declare_amounts() {
+    let state = two_areas();
+    let top = 1u64 << 48;
+    let says = |base, size, limit, alignment| declare(&state, request(base, size, limit, alignment)).0;
+    assert_eq!(says(0, 1, 0, 0), 0);
+    assert_eq!(says(0, 0, 0, 0), 2);
+    assert_eq!(says(top, 1, 0, 0), 13);
+    assert_eq!(says(top + 1, 1, 0, 0), 2);
+    assert_eq!(says(0, top, 0, 0), 14);
+    assert_eq!(says(0, top + 1, 0, 0), 2);
+    assert_eq!(says(0, 1, top, 0), 0);
+    assert_eq!(says(0, 1, top + 1, 0), 2);
+    assert_eq!(says(0, 1, 0, top), 14);
+    assert_eq!(says(0, 1, 0, 2 * top), 2);
+    assert_eq!(says(0, 1, 0, 3), 2);
+    assert_eq!(says(0, 1, 0, 1 << 63), 2);
+    assert_eq!(says(u64::MAX, u64::MAX, u64::MAX, u64::MAX), 2);
+}
+
+#[test]
+fn declare_orders_its_checks() {
+    let mut state = two_areas();
+    let bad = Request { size: 0, order: 9, ..request(0, 0, 0, 0) };
+    assert_eq!(declare(&state, bad).0, 2);
+    let high = Request { order: 2, ..request(0, 1 << 48, 0, 0) };
+    assert_eq!(declare(&state, high).0, 11);
+    assert_eq!(declare(&state, Request { order: u64::MAX, ..high }).0, 11);
+    assert_eq!(declare(&state, Request { order: 1, ..request(0, 1, 0, 0) }).0, 0);
+    state.bitmap.truncate(2);
+    assert_eq!(declare(&state, Request { fixed: true, ..request(PAGE, 1, 0, 0) }).0, 14);
+}
+
+#[test]
+fn declare_at_eight_areas() {
+    let mut state = State::fresh(32, 8);
+    ask(&mut state, boot(1, 32, 0));
+    for area in 0..8 {
+        let one = Call::Declare(request(0, 1, 0, 0));
+        assert_eq!(ask(&mut state, one), (0, 32 - area, 1));
+    }
+    assert_eq!(declare(&state, request(0, 0, u64::MAX, 3)).0, 10);
+}
+
+#[test]
+fn declare_at_a_fixed_base() {
+    let mut state = two_areas();
+    state.bitmap[2] = 99;
+    let fixed = |base, size| Request { fixed: true, ..request(base * PAGE, size * PAGE, 0, 0) };
+    assert_eq!(declare(&state, fixed(8, 8)), (0, 8, 8));
+    assert_eq!(declare(&state, fixed(6, 2)), (13, 0, 0));
+    assert_eq!(declare(&state, fixed(38, 2)), (0, 38, 2));
+    assert_eq!(declare(&state, fixed(38, 4)), (13, 0, 0));
+    assert_eq!(declare(&state, fixed(8, 10)), (12, 0, 0));
+    // Base is rounded up to the block, and the limit is not consulted.
+    assert_eq!(declare(&state, Request { limit: 1, ..fixed(9, 1) }), (0, 10, 2));
+    // Base 0 cancels fixed.
+    assert_eq!(declare(&state, fixed(0, 1)), (0, 38, 2));
+    state.marks[0] = mark_of(3, 0);
+    assert_eq!(declare(&state, fixed(8, 2)).0, 0);
+    state.marks[0] = 6;
+    assert_eq!(declare(&state, fixed(8, 2)).0, 12);
+    ask(&mut state, Call::Declare(fixed(10, 2)));
+    assert_eq!(state.bitmap[2], 0);
+    assert_eq!(state.marks[0], 6);
+}
+
+#[test]
+fn declare_goes_down_past_what_is_taken() {
+    let mut state = two_areas();
+    state.marks[31] = mark_of(1, 1);
+    assert_eq!(declare(&state, request(0, 2 * PAGE, 0, 0)), (0, 36, 2));
+    assert_eq!(declare(&state, request(0, 4 * PAGE, 0, 0)), (0, 28, 4));
+    assert_eq!(declare(&state, request(0, 8 * PAGE, 0, 0)), (0, 24, 8));
+    assert_eq!(declare(&state, request(26 * PAGE, 8 * PAGE, 0, 0)), (13, 0, 0));
+    assert_eq!(declare(&state, request(8 * PAGE, 8 * PAGE, 31 * PAGE, 0)), (0, 8, 8));
+    assert_eq!(declare(&state, request(8 * PAGE + 1, 8 * PAGE, 31 * PAGE, 0)), (13, 0, 0));
+    assert_eq!(declare(&state, request(0, 10 * PAGE, 0, 0)), (13, 0, 0));
+    assert_eq!(declare(&state, request(0, 2 * PAGE, 8 * PAGE, 0)), (13, 0, 0));
+    assert_eq!(declare(&state, request(0, 1, 0, 8 * PAGE)), (0, 24, 8));
+}
+
+fn refused(text: &[u8]) -> (u64, u64) {
+    parse(text).expect_err("is refused")
+}
+
+#[test]
+fn text_names() {
+    assert!(parse(b"").unwrap().is_empty());
+    assert_eq!(parse(b"abcdefgh-JKL_456=1;").unwrap().len(), 1);
+    assert_eq!(refused(b"abcdefgh-JKL_4567=1"), (20, 16));
+    assert_eq!(refused(b"=1"), (20, 0));
+    assert_eq!(refused(b"a"), (20, 1));
+    assert_eq!(refused(b"a b=1"), (20, 1));
+    assert_eq!(refused(b"\xe9=1"), (20, 0));
+    // A repeated name is judged before the byte after it.
+    assert_eq!(refused(b"a=1;a"), (22, 4));
+    assert_eq!(refused(b"a=1;a!"), (22, 4));
+    assert_eq!(refused(b"aaaaaaaaaaaaaaaa=1;aaaaaaaaaaaaaaaaZ=1"), (22, 19));
+    assert_eq!(parse(b"a=1;A=1;aa=1").unwrap().len(), 3);
+}
+
+#[test]
+fn text_numbers() {
+    let size = |text: &[u8]| parse(text).unwrap()[0].size;
+    assert_eq!(size(b"a=10"), 10);
+    assert_eq!(size(b"a=010"), 8);
+    assert_eq!(size(b"a=0x1Fk"), 31 << 10);
+    assert_eq!(size(b"a=0xfM"), 15 << 20);
+    assert_eq!(size(b"a=02g"), 2 << 30);
+    assert_eq!(size(b"a=281474976710656"), 1 << 48);
+    assert_eq!(size(b"a=0000000000000000000000000000001"), 1);
+    assert_eq!(size(b"a=0x000000000000000000000000000001"), 1);
+    assert_eq!(refused(b"a=281474976710657"), (21, 2));
+    assert_eq!(refused(b"a=99999999999999999999999999999999999999"), (21, 2));
+    assert_eq!(refused(b"a=18446744073709551617"), (21, 2));
+    assert_eq!(refused(b"a=17179869184G"), (21, 2));
+    assert_eq!(refused(b"a=0G"), (21, 2));
+    assert_eq!(refused(b"a=1KK"), (20, 4));
+    assert_eq!(refused(b"a=0178"), (20, 5));
+    assert_eq!(refused(b"a=1a"), (20, 3));
+    assert_eq!(refused(b"a=0X1"), (21, 2));
+    assert_eq!(refused(b"a=1@0X1"), (20, 5));
+    assert_eq!(refused(b"a=0xK"), (20, 4));
+    assert_eq!(refused(b"a=1@0x;"), (20, 6));
+    assert_eq!(refused(b"a="), (20, 2));
+    assert_eq!(refused(b"a=K"), (20, 2));
+    assert_eq!(refused(b"a=-1"), (20, 2));
+}
+
+#[test]
+fn text_parts() {
+    let region = parse(b"a=1@2/4:ff").unwrap().remove(0);
+    assert_eq!((region.size, region.start, region.alignment), (1, 2, 4));
+    assert_eq!(parse(b"a=1:ff").unwrap().len(), 1);
+    assert_eq!(parse(b"a=1@0/0").unwrap().len(), 1);
+    assert_eq!(parse(b"a=1/256T").map(|_| ()), Err((20, 7)));
+    assert_eq!(parse(b"a=1/262144G").unwrap()[0].alignment, 1 << 48);
+    assert_eq!(refused(b"a=1/524288G"), (21, 4));
+    assert_eq!(refused(b"a=1@262145G"), (21, 4));
+    assert_eq!(refused(b"a=1/2@2"), (20, 5));
+    assert_eq!(refused(b"a=1:ff/2"), (20, 6));
+    assert_eq!(refused(b"a=1@2@2"), (20, 5));
+    assert_eq!(refused(b"a=1:"), (20, 4));
+    assert_eq!(refused(b"a=1:;"), (20, 4));
+    assert_eq!(refused(b"a=1:fg!"), (25, 4));
+    assert_eq!(refused(b"a=1:FF"), (25, 4));
+    assert_eq!(refused(b"a=1:fff"), (25, 4));
+    assert_eq!(refused(b"a=1:ff!"), (20, 6));
+    assert_eq!(refused(b"a=1;;"), (20, 4));
+    assert_eq!(refused(b"a=1;b"), (20, 5));
+}
+
+#[test]
+fn text_lengths() {
+    let eight = b"a=1;b=1;c=1;d=1;e=1;f=1;g=1;h=1".to_vec();
+    let with = |tail: &[u8]| [&eight[..], tail].concat();
+    assert_eq!(parse(&eight).unwrap().len(), 8);
+    assert_eq!(parse(&with(b";")).unwrap().len(), 8);
+    assert_eq!(refused(&with(b";i=1")), (23, 32));
+    assert_eq!(refused(&with(b";a")), (23, 32));
+    assert_eq!(refused(&with(b";;")), (23, 32));
+    assert_eq!(refused(&with(b"!")), (20, 31));
+    let padded = |length: usize| [b"a=".to_vec(), vec![b'0'; length - 3], b"1".to_vec()].concat();
+    assert_eq!(parse(&padded(1024)).unwrap()[0].size, 1);
+    assert_eq!(refused(&padded(1025)), (24, 1024));
+    assert_eq!(refused(&[b'!'; 1025]), (24, 1024));
+    assert_eq!(refused(&[b'!'; 1024]), (20, 0));
+}
+
+#[test]
+fn boot_declares_in_turn() {
+    let with = |text: &[u8]| {
+        let mut state = State::fresh(32, 2);
+        state.marks.fill(u32::MAX);
+        let boot = Call::Boot { base: 4, frames: 32, order: 2, text: text.to_vec() };
+        let before = state.clone();
+        let answer = ask(&mut state, boot);
+        assert!(answer.0 == 0 || state == before);
+        answer
+    };
+    assert_eq!(with(b"a=1;b=1"), (0, 0, 0));
+    assert_eq!(with(b"a=1;b=1;c=1"), (14, 2, 0));
+    assert_eq!(with(b"a=1;b=1@32768;"), (0, 0, 0));
+    assert_eq!(with(b"a=1@32768;b=1@20K"), (12, 1, 0));
+    assert_eq!(with(b"a=1@4"), (0, 0, 0));
+    assert_eq!(with(b"a=1@144K"), (13, 0, 0));
+    assert_eq!(with(b"a=129K"), (13, 0, 0));
+    // The text is read to its end before anything is declared.
+    assert_eq!(with(b"a=129K;b=0"), (21, 9, 0));
+    let mut state = State::fresh(31, 2);
+    let boot = Call::Boot { base: 4, frames: 32, order: 2, text: b";".to_vec() };
+    assert_eq!(ask(&mut state, boot), (1, 0, 0));
+}
+
+#[test]
+fn boot_starts_at_zero_are_not_fixed() {
+    let mut state = State::fresh(32, 2);
+    let text = b"a=1@0".to_vec();
+    ask(&mut state, Call::Boot { base: 4, frames: 32, order: 2, text });
+    assert_eq!(state.machine.areas[0], Area { base: 32, count: 4, order: 0 });
+}
+
+fn output_of(input: &[u8]) -> String {
+    let mut output = Vec::new();
+    replay(&mut &input[..], &mut output).unwrap();
+    String::from_utf8(output).unwrap()
+}
+
+fn stream(calls: &[Call]) -> Vec<u8> {
+    calls.iter().flat_map(encode).collect()
+}
+
+#[test]
+fn replay_frames() {
+    let calls = [
+        Call::PutMovable { name: 0 },
+        boot(1, 2049, 0),
+        Call::Declare(request(0, 1, 0, 0)),
+        boot(1, 2048, 0),
+        Call::PutMovable { name: 7 },
+        boot(1, 2049, 0),
+        Call::Read { name: 7 },
+        boot(1, 3, 11),
+        Call::Read { name: 7 },
+        boot(5, 3, 0),
+        Call::Read { name: 7 },
+    ];
+    let expected = "step refusal first second\n0 1 0 0\n1 1 0 0\n2 1 0 0\n3 0 0 0\n4 0 1 0\n5 1 0 0\n\
+                    6 0 1 0\n7 1 0 0\n8 0 1 0\n9 0 0 0\n10 3 0 0\nend 11\n";
+    assert_eq!(output_of(&stream(&calls)), expected);
+}
+
+#[test]
+fn replay_lends_forty_bitmap_words() {
+    let size = |frames: u64| Call::Declare(Request { fixed: true, ..request(PAGE, frames * PAGE, 0, 0) });
+    let text = output_of(&stream(&[boot(1, 2048, 0), size(2561), size(2560), size(2048)]));
+    assert!(text.ends_with("1 14 0 0\n2 13 0 0\n3 0 1 2048\nend 4\n"));
+}
+
+#[test]
+fn replay_of_broken_input() {
+    assert_eq!(output_of(b""), "step refusal first second\nend 0\n");
+    assert_eq!(output_of(b"\x0d"), "step refusal first second\nbad 0\n");
+    assert_eq!(output_of(b"\xff"), "step refusal first second\nbad 0\n");
+    let mut input = stream(&[boot(1, 4, 0), Call::Read { name: 1 }]);
+    input.push(99);
+    input.extend(stream(&[Call::Read { name: 1 }]));
+    assert_eq!(output_of(&input), "step refusal first second\n0 0 0 0\n1 3 0 0\nbad 19\n");
+    for kind in 0..=12u8 {
+        let length = body_length(kind).unwrap();
+        let cut = [&[7, 0, 0, 0, 0], &vec![kind; length][..]].concat();
+        assert_eq!(output_of(&cut), "step refusal first second\n0 1 0 0\nbad 5\n");
+    }
+}
+
+#[test]
+fn replay_record_bytes() {
+    let grant = Call::Grant { area: 1, count: 0x0403_0201, align: 2 };
+    assert_eq!(encode(&grant), [8, 1, 2, 1, 2, 3, 4]);
+    let release = Call::Release { area: 3, frame: 9, count: 2 };
+    assert_eq!(encode(&release), [9, 3, 9, 0, 0, 0, 0, 0, 0, 0, 2, 0, 0, 0]);
+    assert_eq!(encode(&boot(258, 3, 4)), [0, 2, 1, 0, 0, 0, 0, 0, 0, 3, 0, 0, 0, 4]);
+    let mut input = stream(&[boot(1, 4, 0), Call::Declare(Request { fixed: true, ..request(PAGE, 1, 0, 0) })]);
+    // Any nonzero byte means fixed.
+    *input.last_mut().unwrap() = 200;
+    assert!(output_of(&input).ends_with("1 0 1 1\nend 2\n"));
+    *input.last_mut().unwrap() = 0;
+    assert!(output_of(&input).ends_with("1 0 4 1\nend 2\n"));
+}
+
+#[test]
+fn the_largest_machine() {
+    let mut state = State::fresh(65_536, 1024);
+    let text = b"a=128M:ff;b=128M".to_vec();
+    let base = (1 << 36) - 65_536;
+    assert_eq!(ask(&mut state, Call::Boot { base, frames: 65_536, order: 10, text }), (0, 0, 0));
+    assert_eq!(ask(&mut state, Call::Grant { area: 1, count: 32_768, align: 16 }), (0, base, 0));
+    assert_eq!(ask(&mut state, Call::Grant { area: 0, count: 32_768, align: 15 }), (0, base + 32_768, 0));
+    assert_eq!(ask(&mut state, Call::PutMovable { name: 1 }), (6, 0, 0));
+    let release = Call::Release { area: 0, frame: base + 32_768, count: 32_768 };
+    assert_eq!(ask(&mut state, release), (0, 0, 0));
+    assert_eq!(ask(&mut state, Call::PutMovable { name: 1 }), (0, base + 32_768, 0));
+}

@@ -1,0 +1,273 @@
+//! The generated calls: what they reach, and what must hold for all of them.
+
+use reference::machine::{kind, kind_of};
+use reference::sample::{break_shape, call, records, right_state, run, text, Rng, FAULTS};
+use reference::{Answer, Call, State};
+use std::collections::{BTreeMap, HashMap};
+
+const CALLS: u64 = 1_000_000;
+
+/// The refusals each kind of call can give, in the order of the kind bytes.
+const POSSIBLE: [&[u64]; 13] = [
+    &[0, 1, 12, 13, 14, 20, 21, 22, 23, 24, 25],
+    &[0, 1, 2, 4, 6],
+    &[0, 1, 2, 4, 6],
+    &[0, 1, 2, 3, 5],
+    &[0, 1, 2, 3, 5],
+    &[0, 1, 2, 3, 5],
+    &[0, 1, 2, 3, 5],
+    &[0, 1, 2, 3],
+    &[0, 1, 2, 7, 8],
+    &[0, 1, 2, 3, 9],
+    &[0, 1, 2, 3],
+    &[0, 1, 2, 3],
+    &[0, 1, 2, 10, 11, 12, 13, 14],
+];
+
+fn possible_pairs() -> Vec<(u8, u64)> {
+    let pairs = |(kind, numbers): (usize, &&[u64])| numbers.iter().map(move |&r| (kind as u8, r)).collect::<Vec<_>>();
+    POSSIBLE.iter().enumerate().flat_map(pairs).collect()
+}
+
+fn check_refusal(before: &State, call: &Call, after: &State, answer: Answer) {
+    assert_eq!(before, after, "{call:?}");
+    assert_eq!(answer.second, 0);
+    assert!(answer.first == 0 || matches!(call, Call::Boot { .. }));
+}
+
+#[test]
+fn every_refusal_of_every_call_occurs() {
+    let mut seen: BTreeMap<(u8, u64), u64> = BTreeMap::new();
+    run(1, CALLS, &mut |before, call, after, answer| {
+        *seen.entry((call.kind(), answer.refusal)).or_default() += 1;
+        if answer.refusal != 0 {
+            check_refusal(before, call, after, answer);
+        }
+    });
+    println!("{seen:?}");
+    assert_eq!(seen.values().sum::<u64>(), CALLS);
+    assert_eq!(seen.keys().copied().collect::<Vec<_>>(), possible_pairs());
+    let (rarest, times) = seen.iter().min_by_key(|(_, &times)| times).unwrap();
+    assert!(*times >= 100, "{rarest:?} only {times} times");
+}
+
+#[test]
+fn an_accepted_call_keeps_the_shape() {
+    run(2, 100_000, &mut |before, call, after, answer| {
+        assert_eq!(after.marks.len(), before.marks.len());
+        if answer.refusal == 0 {
+            assert!(after.clone().shape_is_right(), "{call:?}");
+        }
+    });
+}
+
+#[test]
+fn every_fault_makes_a_wrong_shape() {
+    let mut rng = Rng::new(3);
+    for fault in 0..FAULTS {
+        let mut applied = 0;
+        for _ in 0..2000 {
+            let mut state = right_state(&mut rng);
+            assert!(state.shape_is_right());
+            if break_shape(&mut rng, &mut state, fault) {
+                applied += 1;
+                assert!(!state.shape_is_right(), "fault {fault}: {:?}", state.machine);
+            }
+        }
+        assert!(applied > 200, "fault {fault} applied {applied} times");
+    }
+}
+
+#[test]
+fn the_tables_are_as_odd_as_they_should_be() {
+    let mut rng = Rng::new(4);
+    let (mut twice, mut unused_kinds, mut eight) = (0, 0, 0);
+    for _ in 0..2000 {
+        let state = right_state(&mut rng);
+        let mut pages: Vec<u32> =
+            state.marks.iter().filter(|&&m| (1..=3).contains(&kind_of(m))).map(|m| m / 8).collect();
+        let all = pages.len();
+        pages.sort_unstable();
+        pages.dedup();
+        twice += u32::from(pages.len() < all);
+        unused_kinds += u32::from(state.marks.iter().any(|&m| kind_of(m) > kind::GRANT_LATER));
+        eight += u32::from(state.machine.declared == 8);
+    }
+    assert!(twice > 200 && unused_kinds > 200 && eight > 100, "{twice} {unused_kinds} {eight}");
+}
+
+#[test]
+fn the_same_seed_gives_the_same_list() {
+    let collect = |seed| {
+        let mut list = Vec::new();
+        run(seed, 500, &mut |_, call, _, answer| list.push((call.clone(), answer)));
+        list
+    };
+    assert_eq!(collect(5), collect(5));
+    assert_ne!(collect(5), collect(6));
+    assert_eq!(records(5, 200), records(5, 200));
+}
+
+#[test]
+fn generated_records_replay_to_their_end() {
+    let input = records(7, 20_000);
+    let mut output = Vec::new();
+    reference::replay::replay(&mut &input[..], &mut output).unwrap();
+    let output = String::from_utf8(output).unwrap();
+    assert!(output.ends_with("\nend 20000\n"));
+    assert!(output.lines().filter(|line| line.split(' ').nth(1) == Some("0")).count() > 5000);
+}
+
+// ---- the ledger of demand 3 ----
+
+#[derive(Default)]
+struct Page {
+    word: u64,
+    pinned_at: Option<u64>,
+}
+
+/// What the calls alone tell: live pages, live grants and both totals.
+#[derive(Default)]
+struct Ledger {
+    pages: HashMap<u64, Page>,
+    grants: HashMap<u64, u64>,
+    device_words: HashMap<u64, u64>,
+    granted: u64,
+    released: u64,
+}
+
+impl Ledger {
+    fn page(&mut self, name: u64) -> &mut Page {
+        self.pages.get_mut(&name).expect("a live page")
+    }
+
+    fn feed(&mut self, state: &mut State, call: &Call, answer: Answer) {
+        match *call {
+            Call::PutMovable { name } | Call::PutFixed { name } => {
+                assert!(self.pages.insert(name, Page::default()).is_none());
+            }
+            Call::Drop { name } => assert!(self.pages.remove(&name).is_some()),
+            Call::Pin { name } => {
+                self.page(name).pinned_at = Some(state.apply(&Call::Read { name }).first);
+            }
+            Call::Unpin { name } => self.page(name).pinned_at = None,
+            Call::Store { name, word } => self.page(name).word = word,
+            Call::Grant { count, .. } => self.add_grant(answer.first, count),
+            Call::Release { frame, count, .. } => self.end_grant(frame, count),
+            Call::DeviceStore { frame, word } => {
+                self.device_words.insert(frame, word);
+            }
+            _ => {}
+        }
+    }
+
+    fn add_grant(&mut self, first: u64, count: u64) {
+        self.grants.insert(first, count);
+        self.granted += count;
+        for frame in first..first + count {
+            assert!(self.device_words.insert(frame, 0).is_none(), "a frame granted twice");
+        }
+    }
+
+    fn end_grant(&mut self, first: u64, count: u64) {
+        assert_eq!(self.grants.remove(&first), Some(count));
+        self.released += count;
+        self.device_words.retain(|frame, _| !(first..first + count).contains(frame));
+    }
+
+    fn check(&self, state: &mut State) {
+        for name in 1..100 {
+            let answer = state.apply(&Call::Read { name });
+            match self.pages.get(&name) {
+                None => assert_eq!(answer.refusal, 3),
+                Some(page) => {
+                    assert_eq!((answer.refusal, answer.second), (0, page.word));
+                    assert!(page.pinned_at.is_none_or(|frame| frame == answer.first));
+                }
+            }
+        }
+        let base = state.machine.base;
+        for place in 0..state.marks.len() {
+            let frame = base + place as u64;
+            let answer = state.apply(&Call::DeviceRead { frame });
+            match self.device_words.get(&frame) {
+                None => assert_eq!(answer.refusal, 3),
+                Some(&word) => assert_eq!((answer.refusal, answer.first), (0, word)),
+            }
+        }
+        assert_eq!(self.device_words.len() as u64, self.granted - self.released);
+    }
+}
+
+/// A list of calls after an accepted boot; accepted boots are left out.
+fn ledger_list(seed: u64, length: u64) -> (u64, u64) {
+    let mut rng = Rng::new(seed);
+    let mut state = State::fresh(rng.within(8, 60) as usize, 8);
+    let frames = state.marks.len() as u64;
+    let shape = (rng.within(1, 40), rng.below(3));
+    let boot = Call::Boot { base: shape.0, frames, order: shape.1, text: Vec::new() };
+    assert_eq!(state.apply(&boot).refusal, 0);
+    let mut ledger = Ledger::default();
+    for _ in 0..length {
+        let next = call(&mut rng, &state);
+        let mut trial = state.clone();
+        let answer = trial.apply(&next);
+        if answer.refusal == 0 && matches!(next, Call::Boot { .. }) {
+            continue;
+        }
+        state = trial;
+        if answer.refusal == 0 {
+            ledger.feed(&mut state, &next, answer);
+        }
+    }
+    ledger.check(&mut state);
+    (ledger.granted, ledger.released)
+}
+
+#[test]
+fn the_ledger_agrees_after_every_list() {
+    let mut totals = (0, 0);
+    for seed in 0..600 {
+        let (granted, released) = ledger_list(seed, 20 + seed % 200);
+        totals = (totals.0 + granted, totals.1 + released);
+    }
+    assert!(totals.0 > 1000 && totals.1 > 500, "{totals:?}");
+}
+
+#[test]
+fn stored_words_leave_all_other_answers_alone() {
+    for seed in 0..300 {
+        let mut rng = Rng::new(seed);
+        let (mut one, _) = reference::sample::boot_start(&mut rng);
+        let frames = one.marks.len() as u64;
+        one.apply(&Call::Boot { base: 3, frames, order: 1, text: Vec::new() });
+        let mut two = one.clone();
+        for _ in 0..150 {
+            let next = call(&mut rng, &one);
+            let mut other = next.clone();
+            let chosen = |name: u64| name % 2 == 0;
+            if let Call::Store { name, word } = &mut other {
+                *word ^= if chosen(*name) { 0xffff } else { 0 };
+            }
+            let (a, b) = (one.apply(&next), two.apply(&other));
+            match next {
+                Call::Read { name } if chosen(name) => assert_eq!((a.refusal, a.first), (b.refusal, b.first)),
+                _ => assert_eq!(a, b),
+            }
+        }
+        assert_eq!(one.marks, two.marks);
+    }
+}
+
+#[test]
+fn most_generated_texts_are_refused_somewhere_else() {
+    let mut rng = Rng::new(9);
+    let mut places: BTreeMap<(u64, u64), u64> = BTreeMap::new();
+    for _ in 0..5000 {
+        let state = right_state(&mut rng);
+        if let Err(found) = reference::regions::parse(&text(&mut rng, &state)) {
+            *places.entry(found).or_default() += 1;
+        }
+    }
+    assert!(places.len() > 60, "{places:?}");
+}
