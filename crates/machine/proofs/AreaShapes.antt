@@ -10,10 +10,9 @@ use Rattle.search.proofs.Bools.{and-left, and-right}
 use Rattle.frames.specs.declared.Area.{Area}
 use Rattle.frames.specs.Areas.{endOf, areDisjoint, isMultiple}
 use Rattle.frames.specs.Tables.{Tables}
-use Rattle.machine.specs.declared.Machine.{Machine}
-use Rattle.machine.specs.Record.{areaAt, endFrame}
-use Rattle.machine.specs.Shape.{areaRight, areaFits}
-use Rattle.machine.proofs.Shapes.{Shape}
+use Rattle.rules.specs.Record.{Machine, areaAt, endFrame}
+use Rattle.rules.specs.Shape.{areaRight, areaFits}
+use Rattle.rules.proofs.Shapes.{Shape}
 
 pub record Right (m : Machine) (a : Area) : Type 0 where
   pub count-low : 1 ≤ a .count

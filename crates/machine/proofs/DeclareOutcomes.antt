@@ -18,16 +18,17 @@ use Rattle.answer.specs.Answers.{done}
 use Rattle.frames.specs.declared.Area.{Area}
 use Rattle.frames.specs.Areas.{wordCount}
 use Rattle.frames.specs.Tables.{Tables, tables, fill, withBitmap}
-use Rattle.machine.specs.declared.Machine.{Machine}
-use Rattle.machine.specs.declared.Request.{Request}
+use Rattle.rules.specs.Record.{Machine}
+use Rattle.rules.specs.Declare.{Request, badRequest, isFixed, isOutside, isVacant, areaFrom, areaFor, baseFor, firstMultiple, multiples, fitsAt, highestFit, withArea, declare}
+use Rattle.machine.specs.Given.{machineOf, returned, outcomeOf}
+use Rattle.machine.specs.declared.Machine.{Machine as Given}
 use Rattle.machine.specs.declared.Returned.{Returned}
 use Rattle.machine.specs.declared.areas.Plan.{Plan}
 use Rattle.machine.specs.declared.areas.Plan.the-variants.{Made, Not}
-use Rattle.machine.specs.Limits.{mostAreas}
-use Rattle.machine.specs.Shape.{wordsNeeded, shapeRight}
-use Rattle.machine.specs.Outcomes.{Outcome, outcome, outcomeOf, returned, refuse, checked}
-use Rattle.machine.specs.PageCalls.{freeOrdinary}
-use Rattle.machine.specs.Declare.{badRequest, isFixed, isOutside, isVacant, areaFrom, areaFor, baseFor, firstMultiple, multiples, fitsAt, highestFit, withArea, declare}
+use Rattle.rules.specs.Limits.{mostAreas}
+use Rattle.rules.specs.Shape.{wordsNeeded, shapeRight}
+use Rattle.rules.specs.Outcomes.{Outcome, outcome, refuse, checked}
+use Rattle.rules.specs.PageCalls.{freeOrdinary}
 use Rattle.machine.specs.Plan.{planFixed, planHighest, planRounded, plan}
 
 -- the record, the answer and the tables that an area leaves
@@ -81,10 +82,10 @@ module _ (m : Machine) (r : Request) (t : Tables) where
     declare-few {a} is = plan-few (length (t .bitmap)) a (sym (plan-marks (length (t .bitmap))) ∙ sym e ∙ is)
 
     pub declare-made :
-        {a : Area} {made : Machine} {bitmap : List ℕ} {back : Returned} →
+        {a : Area} {made : Given} {bitmap : List ℕ} {back : Returned} →
         p ≡ Made a →
         bitmap ≡ fill (t .bitmap) (wordsNeeded m) (wordCount a) 0 →
-        made ≡ withArea m a → back ≡ returned made (done (a .base .0) (a .count)) → outcomeOf back (t .marks) (t .words) bitmap ≡ declare m r t
+        machineOf made ≡ withArea m a → back ≡ returned made (done (a .base .0) (a .count)) → outcomeOf back (t .marks) (t .words) bitmap ≡ declare m r t
     declare-made {a} {made} {bitmap} is b w k =
         ap (λ (x : Returned). outcomeOf x (t .marks) (t .words) bitmap) k ∙
         ap (λ (x : Machine). outcome x (done (a .base .0) (a .count)) (tables (t .marks) (t .words) bitmap)) w ∙

@@ -14,15 +14,14 @@ use Rattle.frames.specs.declared.Frame.{Frame}
 use Rattle.frames.specs.declared.Place.{Place}
 use Rattle.frames.specs.Units.{place}
 use Rattle.frames.specs.Tables.{Tables, tables, markAt, wordAt, setPage}
-use Rattle.machine.specs.declared.Machine.{Machine}
-use Rattle.machine.specs.Record.{placeOf, endFrame}
-use Rattle.machine.specs.Shape.{shapeRight}
-use Rattle.machine.specs.Outcomes.{Outcome, outcome, refuse, Passed, end, next}
+use Rattle.rules.specs.Record.{Machine, placeOf, endFrame}
+use Rattle.rules.specs.Shape.{shapeRight}
+use Rattle.rules.specs.Outcomes.{Outcome, outcome, refuse, Passed, end, next}
 use Rattle.machine.specs.Refusals.{refusalOf}
-use Rattle.machine.specs.DeviceCalls.{outsideMemory, deviceChecks, deviceStore, deviceRead}
-use Rattle.machine.proofs.Checks.{checked-passed}
+use Rattle.rules.specs.DeviceCalls.{outsideMemory, deviceChecks, deviceStore, deviceRead}
+use Rattle.rules.proofs.Checks.{checked-passed}
 use Rattle.machine.proofs.RefusalFacts.{Sound, none, some, refused-by, passed-by}
-use Rattle.machine.proofs.Shapes.{Shape, shape-known}
+use Rattle.rules.proofs.Shapes.{Shape, shape-known}
 
 -- a frame of memory
 pub record InMemory (m : Machine) (f : Frame) : Type 0 where

@@ -29,18 +29,17 @@ use Rattle.frames.specs.Areas.{ceiling, perBit, bitCount, bitsFor, frameOfBit, 
 use Rattle.frames.specs.Scans.{marked, isFreeOrdinary}
 use Rattle.frames.specs.Tables.{Tables, tables, fill, withBitmap}
 use Rattle.frames.proofs.AreaFacts.{in-area, holds-yes}
-use Rattle.machine.specs.declared.Machine.{Machine}
-use Rattle.machine.specs.Limits.{mostAlignment}
-use Rattle.machine.specs.Record.{areaAt, frameAt, endFrame, isOrdinary}
-use Rattle.machine.specs.Shape.{shapeRight}
-use Rattle.machine.specs.Outcomes.{Outcome, outcome, refuse, checked, _⇒_, First, here, there, Passed, end, next}
-use Rattle.machine.specs.PageCalls.{freeOrdinary}
+use Rattle.rules.specs.Record.{Machine, areaAt, frameAt, endFrame, isOrdinary}
+use Rattle.rules.specs.Limits.{mostAlignment}
+use Rattle.rules.specs.Shape.{shapeRight}
+use Rattle.rules.specs.Outcomes.{Outcome, outcome, refuse, checked, _⇒_, First, here, there, Passed, end, next}
+use Rattle.rules.specs.PageCalls.{freeOrdinary}
 use Rattle.machine.specs.Refusals.{refusalOf}
-use Rattle.machine.specs.DeviceCalls.{noArea, bitmapOf, placeOfBit, isCandidate, isGrantable, chosen, movers, targets, moveOut, markRun, takeRun, grantChecks, grant}
+use Rattle.rules.specs.DeviceCalls.{noArea, bitmapOf, placeOfBit, isCandidate, isGrantable, chosen, movers, targets, moveOut, markRun, takeRun, grantChecks, grant}
 use Rattle.machine.specs.DeviceSteps.{isAligned, grantableAt, Searchable, RunFits, requestChecks, grantRun}
-use Rattle.machine.proofs.Checks.{checked-first, checked-stop, checked-pass, checked-end}
+use Rattle.rules.proofs.Checks.{checked-first, checked-stop, checked-pass, checked-end}
 use Rattle.machine.proofs.RefusalFacts.{Sound, none, some, refused-first, passed-by}
-use Rattle.machine.proofs.Shapes.{Shape, shape-known}
+use Rattle.rules.proofs.Shapes.{Shape, shape-known}
 use Rattle.machine.proofs.AreaShapes.{Right, area-right}
 use Rattle.machine.proofs.Alignment.{lower-multiple}
 use Rattle.machine.proofs.Moves.{out-bitmap}

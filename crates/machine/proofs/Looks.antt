@@ -21,16 +21,16 @@ use Rattle.frames.specs.Units.{place}
 use Rattle.frames.specs.Marks.{fieldOf, hasKind, isPageOf, movable, pinned, fixed}
 use Rattle.frames.specs.Scans.{marked}
 use Rattle.frames.specs.Tables.{Tables, markAt}
-use Rattle.machine.specs.declared.Machine.{Machine}
+use Rattle.rules.specs.Record.{Machine}
 use Rattle.machine.specs.declared.pages.Found.{Found}
 use Rattle.machine.specs.declared.pages.Found.the-variants.{At, Not}
-use Rattle.machine.specs.Limits.{mostName}
-use Rattle.machine.specs.Shape.{shapeRight, shapeWrong}
-use Rattle.machine.specs.Outcomes.{Outcome, Check, _⇒_, refuse, checked}
-use Rattle.machine.specs.PageCalls.{badName, pageAt, isPlace, isLive, liveChecks}
+use Rattle.rules.specs.Limits.{mostName}
+use Rattle.rules.specs.Shape.{shapeRight, shapeWrong}
+use Rattle.rules.specs.Outcomes.{Outcome, Check, _⇒_, refuse, checked}
+use Rattle.rules.specs.PageCalls.{badName, pageAt, isPlace, isLive, liveChecks}
 use Rattle.machine.specs.Look.{lookUp}
-use Rattle.machine.proofs.Checks.{checked-stop, checked-pass}
-use Rattle.machine.proofs.Shapes.{Shape, shape-known}
+use Rattle.rules.proofs.Checks.{checked-stop, checked-pass}
+use Rattle.rules.proofs.Shapes.{Shape, shape-known}
 
 -- a page of that name has it as its mark's field
 pub page-field : (name mark : ℕ) → isPageOf name mark ≡ true → fieldOf mark ≡ name

@@ -23,10 +23,9 @@ use Rattle.frames.specs.Marks.{kindOf, hasKind, free, movable}
 use Rattle.frames.specs.Scans.{marked, isFreeOrdinary}
 use Rattle.frames.specs.Tables.{Tables, tables, markAt, wordAt, setPage, fill, withBitmap}
 use Rattle.frames.proofs.FillFacts.{fill-none, fill-suc}
-use Rattle.machine.specs.declared.Machine.{Machine}
-use Rattle.machine.specs.PageCalls.{lowestPlace, freeOrdinary}
-use Rattle.machine.specs.Record.{isOrdinary}
-use Rattle.machine.specs.DeviceCalls.{movePage, moveOut}
+use Rattle.rules.specs.Record.{Machine, isOrdinary}
+use Rattle.rules.specs.PageCalls.{lowestPlace, freeOrdinary}
+use Rattle.rules.specs.DeviceCalls.{movePage, moveOut}
 use Rattle.machine.specs.DeviceSteps.{NoneBelow}
 
 pub fill-one : (l : List ℕ) (i v : ℕ) → fill l i 1 v ≡ set l i v

@@ -10,13 +10,12 @@ use Rattle.frames.specs.declared.Frame.{Frame}
 use Rattle.frames.specs.declared.Place.{Place}
 use Rattle.frames.specs.Marks.{kindOf, hasKind, markOf, pinned}
 use Rattle.frames.specs.Tables.{Tables, tables, markAt, wordAt, setPage}
-use Rattle.machine.specs.declared.Machine.{Machine}
+use Rattle.rules.specs.Record.{Machine, frameAt}
 use Rattle.machine.specs.declared.pages.Found.the-variants.{Not}
-use Rattle.machine.specs.Record.{frameAt}
-use Rattle.machine.specs.Outcomes.{Outcome, outcome, refuse}
-use Rattle.machine.specs.PageCalls.{pageAt, dropPage, changeKind, storePage, readPage}
+use Rattle.rules.specs.Outcomes.{Outcome, outcome, refuse}
+use Rattle.rules.specs.PageCalls.{pageAt, dropPage, changeKind, storePage, readPage}
 use Rattle.machine.specs.Look.{lookUp}
-use Rattle.machine.proofs.Checks.{checked-stop, checked-pass, checked-end}
+use Rattle.rules.proofs.Checks.{checked-stop, checked-pass, checked-end}
 use Rattle.machine.proofs.Looks.{Live, looked-not}
 
 module _ (m : Machine) (name : ℕ) (t : Tables) where

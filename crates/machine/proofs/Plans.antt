@@ -22,19 +22,17 @@ use Rattle.frames.specs.Units.{frame, place}
 use Rattle.frames.specs.Scans.{isFreeOrdinary}
 use Rattle.frames.specs.Areas.{wordCount}
 use Rattle.frames.specs.Tables.{Tables, tables}
-use Rattle.machine.specs.declared.Machine.{Machine}
-use Rattle.machine.specs.declared.Request.{Request}
+use Rattle.rules.specs.Record.{Machine, endFrame}
+use Rattle.rules.specs.Declare.{Request, badRequest, roundUp, alignmentFor, baseFor, sizeFor, limitFor, isFixed, isVacant, areaFrom, areaFor, startByte, endByte, firstMultiple, multiples, fitsAt, highestFit}
 use Rattle.machine.specs.declared.areas.Rounded.{Rounded}
 use Rattle.machine.specs.declared.areas.Plan.the-variants.{Made, Not}
-use Rattle.machine.specs.Limits.{pageBytes, mostAreas}
-use Rattle.machine.specs.Shape.{wordsNeeded}
-use Rattle.machine.specs.PageCalls.{freeOrdinary}
-use Rattle.machine.specs.Declare.{badRequest, roundUp, alignmentFor, baseFor, sizeFor, limitFor, isFixed, isVacant, areaFrom, areaFor, startByte, endByte, firstMultiple, multiples, fitsAt, highestFit}
+use Rattle.rules.specs.Limits.{pageBytes, mostAreas}
+use Rattle.rules.specs.Shape.{wordsNeeded}
+use Rattle.rules.specs.PageCalls.{freeOrdinary}
 use Rattle.machine.specs.Plan.{roundedFor, planFixed, planHighest, planRounded, plan}
-use Rattle.machine.specs.Record.{endFrame}
-use Rattle.machine.proofs.Divisions.{le-ceiling}
+use Rattle.rules.proofs.Divisions.{le-ceiling}
 use Rattle.machine.proofs.Taken.{taken-low, taken-fails, taken-some, taken-none}
-use Rattle.machine.proofs.Rounding.{Amounts, in-pages, alignment-some, limit-high}
+use Rattle.rules.proofs.Rounding.{Amounts, in-pages, alignment-some, limit-high}
 
 -- ---- an area on free ordinary frames
 module _ (m : Machine) (marks : List ℕ) where

@@ -20,15 +20,14 @@ use Rattle.frames.specs.Units.{place}
 use Rattle.frames.specs.Marks.{hasKind, markOf, free, movable}
 use Rattle.frames.specs.Scans.{marked, isFreeOrdinary}
 use Rattle.frames.specs.Tables.{Tables, markAt, setPage}
-use Rattle.machine.specs.declared.Machine.{Machine}
+use Rattle.rules.specs.Record.{Machine, frameAt, isOrdinary}
 use Rattle.machine.specs.declared.pages.Found.the-variants.{At, Not}
-use Rattle.machine.specs.Record.{frameAt, isOrdinary}
-use Rattle.machine.specs.Shape.{shapeRight}
-use Rattle.machine.specs.Outcomes.{Outcome, outcome, refuse, checked}
-use Rattle.machine.specs.PageCalls.{badName, isLive, isPlace, lowestPlace, isFree, freeOrdinary, freeInArea, putAt, putPage}
+use Rattle.rules.specs.Shape.{shapeRight}
+use Rattle.rules.specs.Outcomes.{Outcome, outcome, refuse, checked}
+use Rattle.rules.specs.PageCalls.{badName, isLive, isPlace, lowestPlace, isFree, freeOrdinary, freeInArea, putAt, putPage}
 use Rattle.machine.specs.Look.{lookUp}
-use Rattle.machine.proofs.Checks.{checked-stop, checked-pass, checked-end}
-use Rattle.machine.proofs.Shapes.{Shape, shape-known}
+use Rattle.rules.proofs.Checks.{checked-stop, checked-pass, checked-end}
+use Rattle.rules.proofs.Shapes.{Shape, shape-known}
 use Rattle.machine.proofs.Looks.{Missing, looked-missing, looked-refused, looked-live}
 
 -- ---- the place

@@ -9,10 +9,10 @@ use mathlib.Core.Path.{_≡_, refl, sym, subst, _∙_}
 use mathlib.Core.Bool.{Bool, true, false}
 use mathlib.Core.List.{List, [], _∷_}
 use Rattle.frames.specs.Tables.{Tables}
-use Rattle.machine.specs.declared.Machine.{Machine}
-use Rattle.machine.specs.Outcomes.{Outcome, Check, refuse, checked, First, here, there, Passed, end, next}
+use Rattle.rules.specs.Record.{Machine}
+use Rattle.rules.specs.Outcomes.{Outcome, Check, refuse, checked, First, here, there, Passed, end, next}
 use Rattle.machine.specs.Refusals.{refusalOf}
-use Rattle.machine.proofs.Checks.{checked-first, checked-passed, first-or-passed}
+use Rattle.rules.proofs.Checks.{checked-first, checked-passed, first-or-passed}
 
 pub refusal-stop : (c : Check) (cs : List Check) → c .holds ≡ true → refusalOf (c ∷ cs) ≡ c .number
 unfolding refusalOf

@@ -19,16 +19,15 @@ use Rattle.frames.specs.declared.Frame.{Frame}
 use Rattle.frames.specs.declared.Place.{Place}
 use Rattle.frames.specs.Areas.{endOf, perBit, firstWord, bitOfFrame, bitsFor}
 use Rattle.frames.specs.Tables.{Tables, tables, fill}
-use Rattle.machine.specs.declared.Machine.{Machine}
-use Rattle.machine.specs.Record.{areaAt, placeOf, endFrame}
-use Rattle.machine.specs.Shape.{shapeRight, shapeWrong}
-use Rattle.machine.specs.Outcomes.{Outcome, outcome, refuse, Passed, end, next}
+use Rattle.rules.specs.Record.{Machine, areaAt, placeOf, endFrame}
+use Rattle.rules.specs.Shape.{shapeRight, shapeWrong}
+use Rattle.rules.specs.Outcomes.{Outcome, outcome, refuse, Passed, end, next}
 use Rattle.machine.specs.Refusals.{refusalOf}
-use Rattle.machine.specs.DeviceCalls.{noArea, outsideArea, offBit, laterFrames, freeRun, releaseChecks, release}
+use Rattle.rules.specs.DeviceCalls.{noArea, outsideArea, offBit, laterFrames, freeRun, releaseChecks, release}
 use Rattle.machine.specs.DeviceSteps.{rangeChecks}
-use Rattle.machine.proofs.Checks.{checked-passed}
+use Rattle.rules.proofs.Checks.{checked-passed}
 use Rattle.machine.proofs.RefusalFacts.{Sound, none, some, refusal-pass, refused-by, passed-by}
-use Rattle.machine.proofs.Shapes.{Shape, shape-known}
+use Rattle.rules.proofs.Shapes.{Shape, shape-known}
 use Rattle.machine.proofs.AreaShapes.{Right, area-right}
 
 -- ---- tests in a row

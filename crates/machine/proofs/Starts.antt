@@ -2,7 +2,6 @@
 --     plan-same          a plan goes by what the marks read
 --     Grown              what an accepted declaration leaves
 --     plans-all          declaring in turn on the tables is planning in turn
---     bare-shape         the record that a boot begins with
 --     boot-wrong, boot-refused, boot-done    what a boot does
 --     Planning           a loop that plans region i
 --     read-refused, read-given  the text's answer
@@ -35,24 +34,24 @@ use Rattle.regions.specs.Reading.{Read, gives, refuses, _then_}
 use Rattle.regions.specs.Text.{regions}
 use Rattle.regions.specs.Outcome.{noRegion, held, outcome as textOutcome}
 use Rattle.regions.proofs.Refusals.{Sound, sound-regions, answer-refused, answer-given}
-use Rattle.machine.specs.declared.Machine.{Machine}
-use Rattle.machine.specs.declared.Request.{Request}
+use Rattle.rules.specs.Record.{Machine, isOrdinary}
+use Rattle.rules.specs.Declare.{Request, badRequest, sizeFor, alignmentFor, limitFor, baseFor, isFixed, isOutside, isVacant, areaFrom, areaFor, firstMultiple, multiples, fitsAt, highestFit, withArea, declare}
+use Rattle.machine.specs.Given.{machineOf, returned, outcomeOf}
 use Rattle.machine.specs.declared.areas.Plan.{Plan}
 use Rattle.machine.specs.declared.areas.Plan.the-variants.{Made, Not}
 use Rattle.machine.specs.declared.boot.Start.{Start}
-use Rattle.machine.specs.Limits.{mostAreas}
-use Rattle.machine.specs.Record.{isOrdinary}
-use Rattle.machine.specs.Shape.{memoryRight, lengthsRight, areaFits, wordsNeeded, shapeRight}
+use Rattle.rules.specs.Limits.{mostAreas}
+use Rattle.rules.specs.Shape.{memoryRight, lengthsRight, areaFits, wordsNeeded, shapeRight}
 use Rattle.machine.specs.declared.Returned.{Returned}
-use Rattle.machine.specs.Outcomes.{Outcome, outcome, outcomeOf, returned}
-use Rattle.machine.specs.PageCalls.{freeOrdinary}
-use Rattle.machine.specs.Declare.{badRequest, sizeFor, alignmentFor, limitFor, baseFor, isFixed, isOutside, isVacant, areaFrom, areaFor, firstMultiple, multiples, fitsAt, highestFit, withArea, declare}
-use Rattle.machine.specs.Boot.{bareMachine, zeroTables, requestOf, declareAll, bootRecord, booted, boot}
+use Rattle.rules.specs.Outcomes.{Outcome, outcome}
+use Rattle.rules.specs.PageCalls.{freeOrdinary}
+use Rattle.rules.specs.Boot.{bareMachine, zeroTables, requestOf, declareAll, bootRecord, booted, boot}
 use Rattle.machine.specs.Plan.{planFixed, planHighest, planRounded, plan}
-use Rattle.machine.specs.Start.{startOf, followed, planFrom, startRead}
+use Rattle.machine.specs.Start.{Started, startedBy, startOf, followed, planFrom, startRead}
 use Rattle.machine.proofs.DeclareOutcomes.{concluded, declare-plan, plan-marks, plan-few}
-use Rattle.machine.proofs.Placement.{declare-cases, declared-shape, declared-records}
-use Rattle.machine.proofs.ShapeFacts.{facts-shape, lengths-facts}
+use Rattle.rules.proofs.BareShape.{bare-shape}
+use Rattle.rules.proofs.Placement.{declare-cases, declared-shape, declared-records}
+use Rattle.rules.proofs.ShapeFacts.{facts-shape, lengths-facts}
 
 -- ---- marks that read the same
 module _ (m : Machine) (r : Request) (a b : List ℕ) (same : (q : ℕ) → getD a q 0 ≡ getD b q 0) where
@@ -325,13 +324,13 @@ numbered-start room marks base frames order text =
     (λ rs at. numbered-from room marks rs 0 (length rs) (bareMachine base frames order))
 
 module _ (m : Machine) (t : Tables) where
-  leaves-refused : (x : Read Machine) (s : Start) → s ≡ startOf x → (s .refusal ≡ 0 → ⊥) → booted m t x ≡ outcome m (refusedAt (s .refusal) (s .place)) t
-  leaves-refused (gives new at) s e h = absurd (h (ap (λ (k : Start). k .refusal) e))
+  leaves-refused : (x : Read Machine) (s : Started) → s ≡ startOf x → (s .refusal ≡ 0 → ⊥) → booted m t x ≡ outcome m (refusedAt (s .refusal) (s .place)) t
+  leaves-refused (gives new at) s e h = absurd (h (ap (λ (k : Started). k .refusal) e))
   leaves-refused (refuses number at) s e h = rw e
 
-  leaves-record : (x : Read Machine) (s : Start) → s ≡ startOf x → Numbered x → s .refusal ≡ 0 → booted m t x ≡ outcome (s .machine) (done 0 0) (zeroTables t)
+  leaves-record : (x : Read Machine) (s : Started) → s ≡ startOf x → Numbered x → s .refusal ≡ 0 → booted m t x ≡ outcome (s .machine) (done 0 0) (zeroTables t)
   leaves-record (gives new at) s e n h = rw e
-  leaves-record (refuses number at) s e n h = absurd (let z : s .refusal ≡ number = ap (λ (k : Start). k .refusal) e in omega arith)
+  leaves-record (refuses number at) s e n h = absurd (let z : s .refusal ≡ number = ap (λ (k : Started). k .refusal) e in omega arith)
 
 -- ---- a boot
 then-same : (x : Read (List Region)) (f g : List Region → ℕ → Read Machine) → ((rs : List Region) (at : ℕ) → f rs at ≡ g rs at) → (x then f) ≡ (x then g)
@@ -351,24 +350,6 @@ pub bootable-is :
     (memoryRight base frames order && (eqb (length (t .marks)) frames && eqb (length (t .words)) frames)) ≡ (memoryRight base frames order && lengthsRight frames t)
 unfolding lengthsRight
 bootable-is base frames order t = refl
-
--- the record with no areas, on tables that are zero
-pub bare-shape :
-    (base frames order : ℕ) (t : Tables) →
-    (memoryRight base frames order && lengthsRight frames t) ≡ true → shapeRight (bareMachine base frames order) (zeroTables t) ≡ true
-unfolding firstWord
-bare-shape base frames order t e =
-    let b = bareMachine base frames order in
-    let lengths = lengths-facts b t (and-right (memoryRight base frames order) (lengthsRight frames t) e) in
-    facts-shape b (zeroTables t)
-    (record {
-      memory = and-left (memoryRight base frames order) (lengthsRight frames t) e;
-      declared = omega arith;
-      marks = length-replicate (length (t .marks)) 0 ∙ lengths .0;
-      words = length-replicate (length (t .words)) 0 ∙ lengths .1;
-      areas = every-none (areaFits b) 0;
-      bitmap = omega arith;
-    })
 
 module _ (m : Machine) (base frames order : ℕ) (text : List ℕ) (t : Tables) where
   pub boot-wrong : (memoryRight base frames order && lengthsRight frames t) ≡ false → boot m base frames order text t ≡ outcome m (refusedAt 1 0) t
@@ -396,12 +377,12 @@ module _ (m : Machine) (base frames order : ℕ) (text : List ℕ) (t : Tables) 
         (λ q. zero-read q ∙ sym (none q)))))
 
     -- from what the method started with, on marks that are none
-    module _ (marks : List ℕ) (none : length marks ≡ 0) (s : Start) (start : s ≡ startOf (startRead (length (t .bitmap)) marks base frames order text)) where
+    module _ (marks : List ℕ) (none : length marks ≡ 0) (s : Start) (start : startedBy s ≡ startOf (startRead (length (t .bitmap)) marks base frames order text)) where
       reads-zero : (q : ℕ) → getD marks q 0 ≡ 0
       reads-zero q = List·getD-eq-default marks 0 (omega arith)
 
       pub boot-refused : (s .refusal ≡ 0 → ⊥) → boot m base frames order text t ≡ outcome m (refusedAt (s .refusal) (s .place)) t
-      boot-refused h = boots marks reads-zero ∙ leaves-refused m t (startRead (length (t .bitmap)) marks base frames order text) s start h
+      boot-refused h = boots marks reads-zero ∙ leaves-refused m t (startRead (length (t .bitmap)) marks base frames order text) (startedBy s) start h
 
       pub boot-done :
           {m₁ w₁ b₁ : List ℕ} {back : Returned} →
@@ -416,7 +397,7 @@ module _ (m : Machine) (base frames order : ℕ) (text : List ℕ) (t : Tables) 
           let zeros-w : w₁ ≡ replicate (length (t .words)) 0 = ew ∙ fill-all (t .words) frames 0 (lengths .1) in
           let zeros-b : b₁ ≡ replicate (length (t .bitmap)) 0 = eb ∙ fill-all (t .bitmap) (length (t .bitmap)) 0 refl in
           ap (λ (y : Returned). outcomeOf y m₁ w₁ b₁) k ∙
-          ap (λ (y : List ℕ). outcome (s .machine) (done 0 0) (tables y w₁ b₁)) zeros-m ∙
-          ap (λ (y : List ℕ). outcome (s .machine) (done 0 0) (tables (replicate (length (t .marks)) 0) y b₁)) zeros-w ∙
-          ap (λ (y : List ℕ). outcome (s .machine) (done 0 0) (tables (replicate (length (t .marks)) 0) (replicate (length (t .words)) 0) y)) zeros-b ∙
-          sym (boots marks reads-zero ∙ leaves-record m t x s start (numbered-start (length (t .bitmap)) marks base frames order text) h)
+          ap (λ (y : List ℕ). outcome (machineOf (s .machine)) (done 0 0) (tables y w₁ b₁)) zeros-m ∙
+          ap (λ (y : List ℕ). outcome (machineOf (s .machine)) (done 0 0) (tables (replicate (length (t .marks)) 0) y b₁)) zeros-w ∙
+          ap (λ (y : List ℕ). outcome (machineOf (s .machine)) (done 0 0) (tables (replicate (length (t .marks)) 0) (replicate (length (t .words)) 0) y)) zeros-b ∙
+          sym (boots marks reads-zero ∙ leaves-record m t x (startedBy s) start (numbered-start (length (t .bitmap)) marks base frames order text) h)

@@ -17,12 +17,11 @@ use Rattle.frames.specs.Marks.{fieldOf, hasKind, canLeave, head, later}
 use Rattle.frames.specs.Scans.{marked, isFreeOrdinary}
 use Rattle.answer.specs.Answers.{done}
 use Rattle.frames.specs.Tables.{Tables}
-use Rattle.machine.specs.declared.Machine.{Machine}
-use Rattle.machine.specs.Limits.{mostFrames, mostEnd, mostOrder, mostAreas, mostAlignment}
-use Rattle.machine.specs.Record.{areaAt, endFrame}
-use Rattle.machine.specs.Shape.{shapeWrong}
-use Rattle.machine.specs.Outcomes.{Outcome, outcome, Check, _⇒_, checked}
-use Rattle.machine.specs.DeviceCalls.{noArea, offBit, placeOfBit, movers, targets, takeRun}
+use Rattle.rules.specs.Record.{Machine, areaAt, endFrame}
+use Rattle.rules.specs.Limits.{mostFrames, mostEnd, mostOrder, mostAreas, mostAlignment}
+use Rattle.rules.specs.Shape.{shapeWrong}
+use Rattle.rules.specs.Outcomes.{Outcome, outcome, Check, _⇒_, checked}
+use Rattle.rules.specs.DeviceCalls.{noArea, offBit, placeOfBit, movers, targets, takeRun}
 
 -- a release's checks that look at the marks: the last two
 abbrev pub rangeChecks : List ℕ → Place → Area → Frame → ℕ → List Check

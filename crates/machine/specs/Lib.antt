@@ -1,14 +1,6 @@
-pub mod Boot
-pub mod Calls
-pub mod Declare
-pub mod DeviceCalls
 pub mod DeviceSteps
-pub mod Limits
 pub mod Look
-pub mod Outcomes
-pub mod PageCalls
 pub mod Plan
-pub mod Record
 pub mod Refusals
-pub mod Shape
 pub mod Start
+pub mod Given

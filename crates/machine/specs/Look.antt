@@ -3,11 +3,11 @@ use Prim.Native.Nat.{ℕ}
 use mathlib.Core.Bool.{not}
 use Rattle.search.specs.Choice.{if_then_else_}
 use Rattle.frames.specs.Tables.{Tables}
-use Rattle.machine.specs.declared.Machine.{Machine}
+use Rattle.rules.specs.Record.{Machine}
 use Rattle.machine.specs.declared.pages.Found.{Found}
 use Rattle.machine.specs.declared.pages.Found.the-variants.{At, Not}
-use Rattle.machine.specs.Shape.{shapeWrong}
-use Rattle.machine.specs.PageCalls.{badName, pageAt, isLive}
+use Rattle.rules.specs.Shape.{shapeWrong}
+use Rattle.rules.specs.PageCalls.{badName, pageAt, isLive}
 
 unfoldable pub lookUp : Machine → ℕ → Tables → Found
 lookUp m name t =

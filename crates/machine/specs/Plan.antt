@@ -6,14 +6,13 @@ use lib.Dec.{leb, ltb}
 use Rattle.search.specs.Choice.{if_then_else_}
 use Rattle.frames.specs.Areas.{wordCount}
 use Rattle.frames.specs.Tables.{Tables}
-use Rattle.machine.specs.declared.Machine.{Machine}
-use Rattle.machine.specs.declared.Request.{Request}
+use Rattle.rules.specs.Record.{Machine}
+use Rattle.rules.specs.Declare.{Request, badRequest, alignmentFor, baseFor, sizeFor, limitFor, isFixed, isOutside, isVacant, areaFrom, areaFor, firstMultiple, multiples, highestFit}
 use Rattle.machine.specs.declared.areas.Rounded.{Rounded}
 use Rattle.machine.specs.declared.areas.Plan.{Plan}
 use Rattle.machine.specs.declared.areas.Plan.the-variants.{Made, Not}
-use Rattle.machine.specs.Limits.{mostAreas}
-use Rattle.machine.specs.Shape.{wordsNeeded}
-use Rattle.machine.specs.Declare.{badRequest, alignmentFor, baseFor, sizeFor, limitFor, isFixed, isOutside, isVacant, areaFrom, areaFor, firstMultiple, multiples, highestFit}
+use Rattle.rules.specs.Limits.{mostAreas}
+use Rattle.rules.specs.Shape.{wordsNeeded}
 
 -- the amounts as the search takes them
 abbrev pub roundedFor : Machine → Request → Rounded

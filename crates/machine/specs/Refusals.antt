@@ -2,7 +2,7 @@
 use Prim.Native.Nat.{ℕ}
 use mathlib.Core.List.{List, [], _∷_}
 use Rattle.search.specs.Choice.{if_then_else_}
-use Rattle.machine.specs.Outcomes.{Check}
+use Rattle.rules.specs.Outcomes.{Check}
 
 unfoldable pub refusalOf : List Check → ℕ
 refusalOf [] = 0

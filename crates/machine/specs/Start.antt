@@ -8,16 +8,25 @@ use Rattle.regions.specs.declared.Region.{Region}
 use Rattle.regions.specs.Reading.{Read, gives, refuses, _then_}
 use Rattle.regions.specs.Text.{regions}
 use Rattle.regions.specs.Outcome.{noRegion}
-use Rattle.machine.specs.declared.Machine.{Machine}
+use Rattle.rules.specs.Record.{Machine, freshMachine}
 use Rattle.machine.specs.declared.areas.Plan.{Plan}
 use Rattle.machine.specs.declared.areas.Plan.the-variants.{Made, Not}
 use Rattle.machine.specs.declared.boot.Start.{Start}
-use Rattle.machine.specs.Record.{freshMachine}
-use Rattle.machine.specs.Declare.{withArea}
-use Rattle.machine.specs.Boot.{bareMachine, requestOf}
+use Rattle.rules.specs.Declare.{withArea}
+use Rattle.rules.specs.Boot.{bareMachine, requestOf}
+use Rattle.machine.specs.Given.{machineOf}
 use Rattle.machine.specs.Plan.{plan}
 
-abbrev pub startOf : Read Machine → Start
+-- 0 and the record, or a refusal's number and place and a fresh record
+pub record Started : Type 0 where
+  pub refusal : ℕ
+  pub place : ℕ
+  pub machine : Machine
+
+abbrev pub startedBy : Start → Started
+startedBy s = record { refusal = s .refusal; place = s .place; machine = machineOf (s .machine) }
+
+abbrev pub startOf : Read Machine → Started
 startOf (gives m _) = record { refusal = 0; place = 0; machine = m }
 startOf (refuses number at) = record { refusal = number; place = at; machine = freshMachine }
 

@@ -12,11 +12,11 @@ ghost use Rattle.frames.specs.Marks.{hasKind, free};
 ghost use Rattle.frames.specs.Scans.{marked, inAreasAt, isFreeOrdinary};
 ghost use Rattle.frames.specs.Areas.{holdsFrame, wordCount};
 ghost use Rattle.frames.specs.Tables.{tables, fill};
-ghost use Rattle.machine.specs.Limits.{pageBytes};
-ghost use Rattle.machine.specs.Shape.{memoryRight, wordsNeeded};
-ghost use Rattle.machine.specs.Outcomes.{outcomeOf};
-ghost use Rattle.machine.specs.Declare.{badRequest, roundUp, alignmentFor, limitFor, withArea, declare};
+ghost use Rattle.rules.specs.Limits.{pageBytes};
+ghost use Rattle.rules.specs.Shape.{memoryRight, wordsNeeded};
+ghost use Rattle.rules.specs.Declare.{badRequest, roundUp, alignmentFor, limitFor, withArea, declare};
 ghost use Rattle.machine.specs.Plan.{roundedFor, planFixed, planHighest, planRounded, plan};
+ghost use Rattle.machine.specs.Given.{machineOf, requestFor, outcomeOf};
 use crate::Machine;
 use crate::Request;
 use crate::Returned;
@@ -118,7 +118,7 @@ fn first_taken(
 
 // An amount is above the most bytes, the size is 0, or the alignment is neither 0 nor a power of two.
 fn is_bad_request(request: Request) -> bool
-    ensures { λ r. ⌜ r ≡ badRequest request ⌝ }
+    ensures { λ r. ⌜ r ≡ badRequest (requestFor request) ⌝ }
 {
     if Machine::MOST_BYTES < request.base {
         return true;
@@ -174,7 +174,7 @@ impl Machine {
     // The alignment asked for, or a block where that is more.
     fn alignment_for(self, request: Request) -> u64
         requires { ⌜ memoryRight (self .base .0) (self .frames) (self .order) ≡ true ⌝ }
-        ensures { λ r. ⌜ r ≡ alignmentFor self request ⌝ }
+        ensures { λ r. ⌜ r ≡ alignmentFor (machineOf self) (requestFor request) ⌝ }
     {
         let alignment = request.alignment;
         let order = self.order;
@@ -188,7 +188,7 @@ impl Machine {
     // The limit rounded down; the end of memory where that is 0 or past it.
     fn limit_for(self, request: Request) -> u64
         requires { ⌜ memoryRight (self .base .0) (self .frames) (self .order) ≡ true ⌝ }
-        ensures { λ r. ⌜ r ≡ limitFor self request ⌝ }
+        ensures { λ r. ⌜ r ≡ limitFor (machineOf self) (requestFor request) ⌝ }
     {
         let alignment = self.alignment_for(request);
         let end = (self.base.0 + self.frames) * Machine::PAGE_BYTES;
@@ -205,8 +205,8 @@ impl Machine {
     // The amounts as the search takes them.
     fn round(self, request: Request) -> Rounded
         requires { ⌜ memoryRight (self .base .0) (self .frames) (self .order) ≡ true ⌝ }
-        requires { ⌜ badRequest request ≡ false ⌝ }
-        ensures { λ r. ⌜ r ≡ roundedFor self request ⌝ }
+        requires { ⌜ badRequest (requestFor request) ≡ false ⌝ }
+        ensures { λ r. ⌜ r ≡ roundedFor (machineOf self) (requestFor request) ⌝ }
     {
         let alignment = self.alignment_for(request);
         Rounded {
@@ -220,9 +220,9 @@ impl Machine {
     // An area that must begin at its base: it is in memory and could have all of its frames, or it is refused.
     fn plan_fixed(self, marks: &[u32], request: Request) -> Plan
         requires { ⌜ memoryRight (self .base .0) (self .frames) (self .order) ≡ true ⌝ }
-        requires { ⌜ badRequest request ≡ false ⌝ }
+        requires { ⌜ badRequest (requestFor request) ≡ false ⌝ }
         requires { ⌜ self .declared ≤ 8 ⌝ }
-        ensures { λ r. ⌜ r ≡ planFixed self request (tables (now (marks .entry)) [] []) ⌝ }
+        ensures { λ r. ⌜ r ≡ planFixed (machineOf self) (requestFor request) (tables (now (marks .entry)) [] []) ⌝ }
     {
         let rounded = self.round(request);
         let first = self.base.0;
@@ -250,9 +250,9 @@ impl Machine {
     // is the highest that ends below it.
     fn plan_highest(self, marks: &[u32], request: Request) -> Plan
         requires { ⌜ memoryRight (self .base .0) (self .frames) (self .order) ≡ true ⌝ }
-        requires { ⌜ badRequest request ≡ false ⌝ }
+        requires { ⌜ badRequest (requestFor request) ≡ false ⌝ }
         requires { ⌜ self .declared ≤ 8 ⌝ }
-        ensures { λ r. ⌜ r ≡ planHighest self request (tables (now (marks .entry)) [] []) ⌝ }
+        ensures { λ r. ⌜ r ≡ planHighest (machineOf self) (requestFor request) (tables (now (marks .entry)) [] []) ⌝ }
     {
         let rounded = self.round(request);
         let lowest = lowest_end(rounded, self.base.0);
@@ -279,9 +279,9 @@ impl Machine {
     // Whether the bitmap has room for the area, and where the area goes.
     fn plan_rounded(self, marks: &[u32], room: u64, request: Request) -> Plan
         requires { ⌜ memoryRight (self .base .0) (self .frames) (self .order) ≡ true ⌝ }
-        requires { ⌜ badRequest request ≡ false ⌝ }
+        requires { ⌜ badRequest (requestFor request) ≡ false ⌝ }
         requires { ⌜ self .declared ≤ 8 ⌝ }
-        ensures { λ r. ⌜ r ≡ planRounded self request room (tables (now (marks .entry)) [] []) ⌝ }
+        ensures { λ r. ⌜ r ≡ planRounded (machineOf self) (requestFor request) room (tables (now (marks .entry)) [] []) ⌝ }
     {
         let rounded = self.round(request);
         let areas = self.areas;
@@ -307,7 +307,7 @@ impl Machine {
     // The area that a declaration makes, or why it is refused, where there are `room` bitmap words.
     pub(crate) fn plan_area(self, marks: &[u32], room: u64, request: Request) -> Plan
         requires { ⌜ memoryRight (self .base .0) (self .frames) (self .order) ≡ true ⌝ }
-        ensures { λ r. ⌜ r ≡ plan self request room (tables (now (marks .entry)) [] []) ⌝ }
+        ensures { λ r. ⌜ r ≡ plan (machineOf self) (requestFor request) room (tables (now (marks .entry)) [] []) ⌝ }
     {
         if Machine::MOST_AREAS <= self.declared {
             return Plan::Not(refusal::AREAS_FULL);
@@ -324,7 +324,7 @@ impl Machine {
     // The record with one more area.
     pub(crate) fn with_area(self, area: Area) -> Machine
         requires { ⌜ self .declared < 8 ⌝ }
-        ensures { λ r. ⌜ r ≡ withArea self area ⌝ }
+        ensures { λ r. ⌜ machineOf r ≡ withArea (machineOf self) area ⌝ }
     {
         let base = self.base;
         let mut areas = self.areas;
@@ -340,7 +340,7 @@ impl Machine {
 
     // The bitmap words of one more area become 0.
     fn clear_words(self, bitmap: &mut [u64], area: Area)
-        ensures { λ r. ⌜ now (bitmap .exit) ≡ fill (now (bitmap .entry)) (wordsNeeded self) (wordCount area) 0 ⌝ }
+        ensures { λ r. ⌜ now (bitmap .exit) ≡ fill (now (bitmap .entry)) (wordsNeeded (machineOf self)) (wordCount area) 0 ⌝ }
     {
         let areas = self.areas;
         let from = first_word(areas, self.declared);
@@ -355,7 +355,7 @@ impl Machine {
         bitmap: &mut [u64],
         request: Request,
     ) -> Returned
-        ensures { λ r. ⌜ outcomeOf r (now (marks .exit)) (now (words .exit)) (now (bitmap .exit)) ≡ declare self request (tables (now (marks .entry)) (now (words .entry)) (now (bitmap .entry))) ⌝ }
+        ensures { λ r. ⌜ outcomeOf r (now (marks .exit)) (now (words .exit)) (now (bitmap .exit)) ≡ declare (machineOf self) (requestFor request) (tables (now (marks .entry)) (now (words .entry)) (now (bitmap .entry))) ⌝ }
     {
         if !self.shape_right(marks, words, bitmap) {
             return self.refused(refusal::WRONG_SHAPE);

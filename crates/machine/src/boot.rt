@@ -6,10 +6,10 @@ ghost use lib.Dec.{eqb};
 ghost use Rattle.answer.specs.Answers.{refusedAt};
 ghost use Rattle.frames.specs.Tables.{tables};
 ghost use Rattle.regions.specs.Reading.{refuses};
-ghost use Rattle.machine.specs.Shape.{memoryRight};
-ghost use Rattle.machine.specs.Outcomes.{outcomeOf, returned};
-ghost use Rattle.machine.specs.Boot.{bareMachine, requestOf, boot};
-ghost use Rattle.machine.specs.Start.{startOf, planFrom, startRead};
+ghost use Rattle.rules.specs.Shape.{memoryRight};
+ghost use Rattle.rules.specs.Boot.{bareMachine, requestOf, boot};
+ghost use Rattle.machine.specs.Start.{startedBy, startOf, planFrom, startRead};
+ghost use Rattle.machine.specs.Given.{machineOf, requestFor, returned, outcomeOf};
 use crate::Machine;
 use crate::Request;
 use crate::Returned;
@@ -34,7 +34,7 @@ pub struct Start {
 
 // A region's declaration: a nonzero start is fixed.
 fn request_of(region: Region) -> Request
-    ensures { λ r. ⌜ r ≡ requestOf region ⌝ }
+    ensures { λ r. ⌜ requestFor r ≡ requestOf region ⌝ }
 {
     Request {
         base: region.start,
@@ -62,7 +62,7 @@ fn is_bootable(marks: usize, words: usize, base: u64, frames: u64, order: u64) -
 impl Machine {
     // A record with no areas.
     fn bare(base: u64, frames: u64, order: u64) -> Self
-        ensures { λ r. ⌜ r ≡ bareMachine base frames order ⌝ }
+        ensures { λ r. ⌜ machineOf r ≡ bareMachine base frames order ⌝ }
     {
         let none = Area {
             base: Frame(0),
@@ -90,7 +90,7 @@ impl Machine {
 
     // A start that is refused.
     fn not_started(number: u64, place: u64) -> Start
-        ensures { λ r. ⌜ r ≡ startOf (refuses number place) ⌝ }
+        ensures { λ r. ⌜ startedBy r ≡ startOf (refuses number place) ⌝ }
     {
         let machine = Machine::fresh();
         Start {
@@ -104,7 +104,7 @@ impl Machine {
     fn plan_regions(self, marks: &[u32], room: u64, regions: Regions) -> Start
         requires { ⌜ memoryRight (self .base .0) (self .frames) (self .order) ≡ true ⌝ }
         requires { ⌜ regions .count ≤ 8 ⌝ }
-        ensures { λ r. ⌜ r ≡ startOf (planFrom room (now (marks .entry)) (regions .list) 0 (regions .count) self) ⌝ }
+        ensures { λ r. ⌜ startedBy r ≡ startOf (planFrom room (now (marks .entry)) (regions .list) 0 (regions .count) (machineOf self)) ⌝ }
     {
         let list = regions.list;
         let count = regions.count;
@@ -132,7 +132,7 @@ impl Machine {
     // What numbers that are right and a text come to.
     fn start(marks: &[u32], room: u64, base: u64, frames: u64, order: u64, text: &[u8]) -> Start
         requires { ⌜ memoryRight base frames order ≡ true ⌝ }
-        ensures { λ r. ⌜ r ≡ startOf (startRead room (now (marks .entry)) base frames order (now (text .entry))) ⌝ }
+        ensures { λ r. ⌜ startedBy r ≡ startOf (startRead room (now (marks .entry)) base frames order (now (text .entry))) ⌝ }
     {
         let regions = read_regions(text);
         if regions.refusal != 0 {
@@ -153,7 +153,7 @@ impl Machine {
         order: u64,
         text: &[u8],
     ) -> Returned
-        ensures { λ r. ⌜ outcomeOf r (now (marks .exit)) (now (words .exit)) (now (bitmap .exit)) ≡ boot self base frames order (now (text .entry)) (tables (now (marks .entry)) (now (words .entry)) (now (bitmap .entry))) ⌝ }
+        ensures { λ r. ⌜ outcomeOf r (now (marks .exit)) (now (words .exit)) (now (bitmap .exit)) ≡ boot (machineOf self) base frames order (now (text .entry)) (tables (now (marks .entry)) (now (words .entry)) (now (bitmap .entry))) ⌝ }
     {
         if !is_bootable(marks.len(), words.len(), base, frames, order) {
             return self.refused_at(refusal::WRONG_SHAPE, 0);

@@ -15,12 +15,12 @@ ghost use Rattle.frames.specs.Areas.{bitCount, frameOfBit};
 ghost use Rattle.frames.specs.Scans.{marked};
 ghost use Rattle.frames.specs.Tables.{tables};
 ghost use Rattle.frames.specs.Units.{place, bit};
-ghost use Rattle.machine.specs.Outcomes.{outcomeOf};
 ghost use Rattle.machine.specs.Refusals.{refusalOf};
-ghost use Rattle.machine.specs.Record.{areaAt, placeOf, isOrdinary};
-ghost use Rattle.machine.specs.DeviceCalls.{noArea, outsideMemory, deviceChecks, deviceStore, deviceRead, outsideArea, offBit, releaseChecks, freeRun, release, bitmapOf, movePage, moveOut, markRun, takeRun, grant};
+ghost use Rattle.rules.specs.Record.{areaAt, placeOf, isOrdinary};
+ghost use Rattle.rules.specs.DeviceCalls.{noArea, outsideMemory, deviceChecks, deviceStore, deviceRead, outsideArea, offBit, releaseChecks, freeRun, release, bitmapOf, movePage, moveOut, markRun, takeRun, grant};
 ghost use Rattle.machine.specs.DeviceSteps.{rangeChecks, grantableAt, FirstAligned, Searchable, RunFits, NoneBelow, grantRun, requestChecks};
-ghost use Rattle.machine.specs.Limits.{mostAlignment};
+ghost use Rattle.rules.specs.Limits.{mostAlignment};
+ghost use Rattle.machine.specs.Given.{machineOf, outcomeOf};
 use crate::Machine;
 use crate::Returned;
 use crate::kinds::HEAD;
@@ -219,7 +219,7 @@ impl Machine {
     // The frame is none of memory.
     fn is_outside(self, frame: Frame) -> bool
         requires { ⌜ self .base .0 + self .frames < 18446744073709551616 ⌝ }
-        ensures { λ r. ⌜ r ≡ outsideMemory self frame ⌝ }
+        ensures { λ r. ⌜ r ≡ outsideMemory (machineOf self) frame ⌝ }
     {
         if frame.0 < self.base.0 {
             return true;
@@ -229,7 +229,7 @@ impl Machine {
 
     // Why a device may not store to a frame, or read it; or that it may.
     fn device_refusal(self, marks: &[u32], words: &[u64], bitmap: &[u64], frame: Frame) -> u64
-        ensures { λ r. ⌜ r ≡ refusalOf (deviceChecks self frame (tables (now (marks .entry)) (now (words .entry)) (now (bitmap .entry)))) ⌝ }
+        ensures { λ r. ⌜ r ≡ refusalOf (deviceChecks (machineOf self) frame (tables (now (marks .entry)) (now (words .entry)) (now (bitmap .entry)))) ⌝ }
     {
         if !self.shape_right(marks, words, bitmap) {
             return refusal::WRONG_SHAPE;
@@ -254,7 +254,7 @@ impl Machine {
         frame: Frame,
         word: u64,
     ) -> Returned
-        ensures { λ r. ⌜ outcomeOf r (now (marks .exit)) (now (words .exit)) (now (bitmap .exit)) ≡ deviceStore self frame word (tables (now (marks .entry)) (now (words .entry)) (now (bitmap .entry))) ⌝ }
+        ensures { λ r. ⌜ outcomeOf r (now (marks .exit)) (now (words .exit)) (now (bitmap .exit)) ≡ deviceStore (machineOf self) frame word (tables (now (marks .entry)) (now (words .entry)) (now (bitmap .entry))) ⌝ }
     {
         let number = self.device_refusal(marks, words, bitmap, frame);
         if number != refusal::NONE {
@@ -274,7 +274,7 @@ impl Machine {
         bitmap: &mut [u64],
         frame: Frame,
     ) -> Returned
-        ensures { λ r. ⌜ outcomeOf r (now (marks .exit)) (now (words .exit)) (now (bitmap .exit)) ≡ deviceRead self frame (tables (now (marks .entry)) (now (words .entry)) (now (bitmap .entry))) ⌝ }
+        ensures { λ r. ⌜ outcomeOf r (now (marks .exit)) (now (words .exit)) (now (bitmap .exit)) ≡ deviceRead (machineOf self) frame (tables (now (marks .entry)) (now (words .entry)) (now (bitmap .entry))) ⌝ }
     {
         let number = self.device_refusal(marks, words, bitmap, frame);
         if number != refusal::NONE {
@@ -288,7 +288,7 @@ impl Machine {
     // An argument of a release is outside its range.
     fn is_bad_range(self, area: u64, frame: Frame, count: u64) -> bool
         requires { ⌜ self .declared ≤ 8 ⌝ }
-        ensures { λ r. ⌜ r ≡ (noArea self area || eqb count 0 || outsideArea (areaAt self area) frame count) ⌝ }
+        ensures { λ r. ⌜ r ≡ (noArea (machineOf self) area || eqb count 0 || outsideArea (areaAt (machineOf self) area) frame count) ⌝ }
     {
         if self.declared <= area {
             return true;
@@ -311,7 +311,7 @@ impl Machine {
         frame: Frame,
         count: u64,
     ) -> u64
-        ensures { λ r. ⌜ r ≡ refusalOf (releaseChecks self area frame count (tables (now (marks .entry)) (now (words .entry)) (now (bitmap .entry)))) ⌝ }
+        ensures { λ r. ⌜ r ≡ refusalOf (releaseChecks (machineOf self) area frame count (tables (now (marks .entry)) (now (words .entry)) (now (bitmap .entry)))) ⌝ }
     {
         if !self.shape_right(marks, words, bitmap) {
             return refusal::WRONG_SHAPE;
@@ -335,8 +335,8 @@ impl Machine {
         frame: Frame,
         count: u64,
     )
-        requires { ⌜ (area < 8) × (areaAt self area .order < 64) × (areaAt self area .base .0 ≤ frame .0) × (self .base .0 ≤ frame .0) ⌝ }
-        ensures { λ _. ⌜ tables (now (marks .exit)) (now (words .exit)) (now (bitmap .exit)) ≡ freeRun self (tables (now (marks .entry)) (now (words .entry)) (now (bitmap .entry))) area frame count ⌝ }
+        requires { ⌜ (area < 8) × (areaAt (machineOf self) area .order < 64) × (areaAt (machineOf self) area .base .0 ≤ frame .0) × (self .base .0 ≤ frame .0) ⌝ }
+        ensures { λ _. ⌜ tables (now (marks .exit)) (now (words .exit)) (now (bitmap .exit)) ≡ freeRun (machineOf self) (tables (now (marks .entry)) (now (words .entry)) (now (bitmap .entry))) area frame count ⌝ }
     {
         let i = area as usize;
         let a = self.areas[i];
@@ -360,7 +360,7 @@ impl Machine {
         frame: Frame,
         count: u64,
     ) -> Returned
-        ensures { λ r. ⌜ outcomeOf r (now (marks .exit)) (now (words .exit)) (now (bitmap .exit)) ≡ release self area frame count (tables (now (marks .entry)) (now (words .entry)) (now (bitmap .entry))) ⌝ }
+        ensures { λ r. ⌜ outcomeOf r (now (marks .exit)) (now (words .exit)) (now (bitmap .exit)) ≡ release (machineOf self) area frame count (tables (now (marks .entry)) (now (words .entry)) (now (bitmap .entry))) ⌝ }
     {
         let number = self.release_refusal(marks, words, bitmap, area, frame, count);
         if number != refusal::NONE {
@@ -373,8 +373,8 @@ impl Machine {
     // A movable page goes to the lowest free ordinary frame, with its mark and word. No place below `low` is free and ordinary; nor is one
     // below the answer then, so that the next search begins there.
     fn move_page(self, marks: &mut [u32], words: &mut [u64], page: Place, low: usize) -> usize
-        requires { ⌜ (page .0 < length (now marks)) × (page .0 < length (now words)) × (length (now marks) ≡ self .frames) × (isOrdinary self page ≡ false) × NoneBelow self (now marks) low ⌝ }
-        ensures { λ r. ⌜ (tables (now (marks .exit)) (now (words .exit)) [] ≡ movePage self (tables (now (marks .entry)) (now (words .entry)) []) page) × NoneBelow self (now (marks .exit)) r ⌝ }
+        requires { ⌜ (page .0 < length (now marks)) × (page .0 < length (now words)) × (length (now marks) ≡ self .frames) × (isOrdinary (machineOf self) page ≡ false) × NoneBelow (machineOf self) (now marks) low ⌝ }
+        ensures { λ r. ⌜ (tables (now (marks .exit)) (now (words .exit)) [] ≡ movePage (machineOf self) (tables (now (marks .entry)) (now (words .entry)) []) page) × NoneBelow (machineOf self) (now (marks .exit)) r ⌝ }
     {
         let at = page.0;
         let mark = marks[at];
@@ -391,8 +391,8 @@ impl Machine {
 
     // The movable pages of a run, which has no ordinary frame, go out, ascending.
     fn move_out(self, marks: &mut [u32], words: &mut [u64], page: Place, count: u64)
-        requires { ⌜ (page .0 + count ≤ length (now marks)) × (length (now words) ≡ length (now marks)) × (length (now marks) ≡ self .frames) × ((k : ℕ) → page .0 ≤ k → k < page .0 + count → isOrdinary self (place k) ≡ false) ⌝ }
-        ensures { λ _. ⌜ tables (now (marks .exit)) (now (words .exit)) [] ≡ moveOut self (tables (now (marks .entry)) (now (words .entry)) []) page count ⌝ }
+        requires { ⌜ (page .0 + count ≤ length (now marks)) × (length (now words) ≡ length (now marks)) × (length (now marks) ≡ self .frames) × ((k : ℕ) → page .0 ≤ k → k < page .0 + count → isOrdinary (machineOf self) (place k) ≡ false) ⌝ }
+        ensures { λ _. ⌜ tables (now (marks .exit)) (now (words .exit)) [] ≡ moveOut (machineOf self) (tables (now (marks .entry)) (now (words .entry)) []) page count ⌝ }
     {
         let mut at = page.0;
         let end = at + count as usize;
@@ -413,8 +413,8 @@ impl Machine {
         run: Bit,
         count: u64,
     ) -> Frame
-        requires { ⌜ RunFits self (now marks) (now words) area run count ⌝ }
-        ensures { λ r. ⌜ (r ≡ frameOfBit (areaAt self area) run) × (tables (now (marks .exit)) (now (words .exit)) (now (bitmap .exit)) ≡ takeRun self (tables (now (marks .entry)) (now (words .entry)) (now (bitmap .entry))) area count run) ⌝ }
+        requires { ⌜ RunFits (machineOf self) (now marks) (now words) area run count ⌝ }
+        ensures { λ r. ⌜ (r ≡ frameOfBit (areaAt (machineOf self) area) run) × (tables (now (marks .exit)) (now (words .exit)) (now (bitmap .exit)) ≡ takeRun (machineOf self) (tables (now (marks .entry)) (now (words .entry)) (now (bitmap .entry))) area count run) ⌝ }
     {
         let i = area as usize;
         let a = self.areas[i];
@@ -438,8 +438,8 @@ impl Machine {
         run: Bit,
         count: u64,
     ) -> Returned
-        requires { ⌜ RunFits self (now marks) (now words) area run count ⌝ }
-        ensures { λ r. ⌜ outcomeOf r (now (marks .exit)) (now (words .exit)) (now (bitmap .exit)) ≡ grantRun self area count run (tables (now (marks .entry)) (now (words .entry)) (now (bitmap .entry))) ⌝ }
+        requires { ⌜ RunFits (machineOf self) (now marks) (now words) area run count ⌝ }
+        ensures { λ r. ⌜ outcomeOf r (now (marks .exit)) (now (words .exit)) (now (bitmap .exit)) ≡ grantRun (machineOf self) area count run (tables (now (marks .entry)) (now (words .entry)) (now (bitmap .entry))) ⌝ }
     {
         let i = area as usize;
         let a = self.areas[i];
@@ -453,7 +453,7 @@ impl Machine {
 
     // An argument of a grant is outside its range.
     fn is_bad_request(self, area: u64, count: u64, order: u64) -> bool
-        ensures { λ r. ⌜ r ≡ (noArea self area || eqb count 0 || ltb mostAlignment order) ⌝ }
+        ensures { λ r. ⌜ r ≡ (noArea (machineOf self) area || eqb count 0 || ltb mostAlignment order) ⌝ }
     {
         if self.declared <= area {
             return true;
@@ -474,7 +474,7 @@ impl Machine {
         count: u64,
         order: u64,
     ) -> u64
-        ensures { λ r. ⌜ r ≡ refusalOf (requestChecks self area count order (tables (now (marks .entry)) (now (words .entry)) (now (bitmap .entry)))) ⌝ }
+        ensures { λ r. ⌜ r ≡ refusalOf (requestChecks (machineOf self) area count order (tables (now (marks .entry)) (now (words .entry)) (now (bitmap .entry)))) ⌝ }
     {
         if !self.shape_right(marks, words, bitmap) {
             return refusal::WRONG_SHAPE;
@@ -487,8 +487,8 @@ impl Machine {
 
     // The lowest bit of an area at which a run can be granted; the bit after the last where there is none.
     fn choose_run(self, marks: &[u32], bitmap: &[u64], area: u64, count: u64, order: u64) -> Bit
-        requires { ⌜ (area < 8) × Searchable (self .base) (areaAt self area) count order ⌝ }
-        ensures { λ r. ⌜ r ≡ bit (lowest (λ j. grantableAt (now (marks .entry)) (now (bitmap .entry)) (self .base) (areaAt self area) (bitmapOf self area) count order (bit j)) (bitCount (areaAt self area))) ⌝ }
+        requires { ⌜ (area < 8) × Searchable (self .base) (areaAt (machineOf self) area) count order ⌝ }
+        ensures { λ r. ⌜ r ≡ bit (lowest (λ j. grantableAt (now (marks .entry)) (now (bitmap .entry)) (self .base) (areaAt (machineOf self) area) (bitmapOf (machineOf self) area) count order (bit j)) (bitCount (areaAt (machineOf self) area))) ⌝ }
     {
         let i = area as usize;
         let a = self.areas[i];
@@ -506,7 +506,7 @@ impl Machine {
         count: u64,
         order: u64,
     ) -> Returned
-        ensures { λ r. ⌜ outcomeOf r (now (marks .exit)) (now (words .exit)) (now (bitmap .exit)) ≡ grant self area count order (tables (now (marks .entry)) (now (words .entry)) (now (bitmap .entry))) ⌝ }
+        ensures { λ r. ⌜ outcomeOf r (now (marks .exit)) (now (words .exit)) (now (bitmap .exit)) ≡ grant (machineOf self) area count order (tables (now (marks .entry)) (now (words .entry)) (now (bitmap .entry))) ⌝ }
     {
         let number = self.request_refusal(marks, words, bitmap, area, count, order);
         if number != refusal::NONE {

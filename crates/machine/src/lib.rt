@@ -1,6 +1,7 @@
 // The contiguous-memory page manager: the machine record and its calls.
 ghost use mathlib.Core.Path.{_≡_};
-ghost use Rattle.machine.specs.Record.{freshMachine};
+ghost use Rattle.rules.specs.Record.{freshMachine};
+ghost use Rattle.machine.specs.Given.{machineOf};
 
 mod areas;
 mod boot;
@@ -65,7 +66,7 @@ impl Machine {
 
     // A fresh record: all zeros, so every call but boot refuses it as the wrong shape.
     pub fn fresh() -> Self
-        ensures { λ r. ⌜ r ≡ freshMachine ⌝ }
+        ensures { λ r. ⌜ machineOf r ≡ freshMachine ⌝ }
     {
         let none = Area {
             base: Frame(0),

@@ -8,12 +8,12 @@ ghost use lib.ListN.{length};
 ghost use Rattle.answer.specs.Answers.{done, refused};
 ghost use Rattle.frames.specs.Marks.{movable, pinned, fixed};
 ghost use Rattle.frames.specs.Tables.{tables};
-ghost use Rattle.machine.specs.Outcomes.{outcomeOf, returned};
-ghost use Rattle.machine.specs.PageCalls.{badName, putAt, putPage, putMovable, putFixed, dropPage, changeKind, pinPage, unpinPage, storePage, readPage};
+ghost use Rattle.rules.specs.PageCalls.{badName, putAt, putPage, putMovable, putFixed, dropPage, changeKind, pinPage, unpinPage, storePage, readPage};
 ghost use Rattle.machine.specs.Look.{lookUp};
-ghost use Rattle.machine.specs.Shape.{shapeRight};
+ghost use Rattle.rules.specs.Shape.{shapeRight};
 ghost use Rattle.machine.specs.declared.pages.Found.the-variants.{Not};
 ghost use mathlib.Core.Bool.{true};
+ghost use Rattle.machine.specs.Given.{machineOf, returned, outcomeOf};
 use crate::Machine;
 use crate::Returned;
 use crate::kinds::FIXED;
@@ -69,7 +69,7 @@ impl Machine {
 
     // The checks that come first for every page that is looked up: the shape, the name's range, and that the page is live.
     fn look_up(self, marks: &[u32], words: &[u64], bitmap: &[u64], name: u64) -> Found
-        ensures { λ r. ⌜ r ≡ lookUp self name (tables (now (marks .entry)) (now (words .entry)) (now (bitmap .entry))) ⌝ }
+        ensures { λ r. ⌜ r ≡ lookUp (machineOf self) name (tables (now (marks .entry)) (now (words .entry)) (now (bitmap .entry))) ⌝ }
     {
         if !self.shape_right(marks, words, bitmap) {
             return Found::Not(refusal::WRONG_SHAPE);
@@ -87,8 +87,8 @@ impl Machine {
     // The place that a put takes: the lowest free ordinary frame; a movable page with none left takes the lowest free frame of an area,
     // which is then the lowest free frame of all.
     fn put_at(self, marks: &[u32], words: &[u64], bitmap: &[u64], kind: u32) -> Place
-        requires { ⌜ shapeRight self (tables (now marks) (now words) (now bitmap)) ≡ true ⌝ }
-        ensures { λ r. ⌜ r ≡ putAt kind self (tables (now (marks .entry)) (now (words .entry)) (now (bitmap .entry))) ⌝ }
+        requires { ⌜ shapeRight (machineOf self) (tables (now marks) (now words) (now bitmap)) ≡ true ⌝ }
+        ensures { λ r. ⌜ r ≡ putAt kind (machineOf self) (tables (now (marks .entry)) (now (words .entry)) (now (bitmap .entry))) ⌝ }
     {
         let base = self.base;
         let areas = self.areas;
@@ -111,9 +111,9 @@ impl Machine {
         name: u64,
         kind: u32,
     ) -> Returned
-        requires { ⌜ lookUp self name (tables (now marks) (now words) (now bitmap)) ≡ Not 3 ⌝ }
+        requires { ⌜ lookUp (machineOf self) name (tables (now marks) (now words) (now bitmap)) ≡ Not 3 ⌝ }
         requires { ⌜ kind < 8 ⌝ }
-        ensures { λ r. ⌜ outcomeOf r (now (marks .exit)) (now (words .exit)) (now (bitmap .exit)) ≡ putPage kind self name (tables (now (marks .entry)) (now (words .entry)) (now (bitmap .entry))) ⌝ }
+        ensures { λ r. ⌜ outcomeOf r (now (marks .exit)) (now (words .exit)) (now (bitmap .exit)) ≡ putPage kind (machineOf self) name (tables (now (marks .entry)) (now (words .entry)) (now (bitmap .entry))) ⌝ }
     {
         let page = self.put_at(marks, words, bitmap, kind);
         let at = page.0;
@@ -137,7 +137,7 @@ impl Machine {
         kind: u32,
     ) -> Returned
         requires { ⌜ kind < 8 ⌝ }
-        ensures { λ r. ⌜ outcomeOf r (now (marks .exit)) (now (words .exit)) (now (bitmap .exit)) ≡ putPage kind self name (tables (now (marks .entry)) (now (words .entry)) (now (bitmap .entry))) ⌝ }
+        ensures { λ r. ⌜ outcomeOf r (now (marks .exit)) (now (words .exit)) (now (bitmap .exit)) ≡ putPage kind (machineOf self) name (tables (now (marks .entry)) (now (words .entry)) (now (bitmap .entry))) ⌝ }
     {
         let found = self.look_up(marks, words, bitmap, name);
         match found {
@@ -159,7 +159,7 @@ impl Machine {
         bitmap: &mut [u64],
         name: u64,
     ) -> Returned
-        ensures { λ r. ⌜ outcomeOf r (now (marks .exit)) (now (words .exit)) (now (bitmap .exit)) ≡ putMovable self name (tables (now (marks .entry)) (now (words .entry)) (now (bitmap .entry))) ⌝ }
+        ensures { λ r. ⌜ outcomeOf r (now (marks .exit)) (now (words .exit)) (now (bitmap .exit)) ≡ putMovable (machineOf self) name (tables (now (marks .entry)) (now (words .entry)) (now (bitmap .entry))) ⌝ }
     {
         self.put_page(marks, words, bitmap, name, MOVABLE)
     }
@@ -172,7 +172,7 @@ impl Machine {
         bitmap: &mut [u64],
         name: u64,
     ) -> Returned
-        ensures { λ r. ⌜ outcomeOf r (now (marks .exit)) (now (words .exit)) (now (bitmap .exit)) ≡ putFixed self name (tables (now (marks .entry)) (now (words .entry)) (now (bitmap .entry))) ⌝ }
+        ensures { λ r. ⌜ outcomeOf r (now (marks .exit)) (now (words .exit)) (now (bitmap .exit)) ≡ putFixed (machineOf self) name (tables (now (marks .entry)) (now (words .entry)) (now (bitmap .entry))) ⌝ }
     {
         self.put_page(marks, words, bitmap, name, FIXED)
     }
@@ -185,7 +185,7 @@ impl Machine {
         bitmap: &mut [u64],
         name: u64,
     ) -> Returned
-        ensures { λ r. ⌜ outcomeOf r (now (marks .exit)) (now (words .exit)) (now (bitmap .exit)) ≡ dropPage self name (tables (now (marks .entry)) (now (words .entry)) (now (bitmap .entry))) ⌝ }
+        ensures { λ r. ⌜ outcomeOf r (now (marks .exit)) (now (words .exit)) (now (bitmap .exit)) ≡ dropPage (machineOf self) name (tables (now (marks .entry)) (now (words .entry)) (now (bitmap .entry))) ⌝ }
     {
         let found = self.look_up(marks, words, bitmap, name);
         match found {
@@ -214,7 +214,7 @@ impl Machine {
         to: u32,
     ) -> Returned
         requires { ⌜ to < 8 ⌝ }
-        ensures { λ r. ⌜ outcomeOf r (now (marks .exit)) (now (words .exit)) (now (bitmap .exit)) ≡ changeKind from to self name (tables (now (marks .entry)) (now (words .entry)) (now (bitmap .entry))) ⌝ }
+        ensures { λ r. ⌜ outcomeOf r (now (marks .exit)) (now (words .exit)) (now (bitmap .exit)) ≡ changeKind from to (machineOf self) name (tables (now (marks .entry)) (now (words .entry)) (now (bitmap .entry))) ⌝ }
     {
         let found = self.look_up(marks, words, bitmap, name);
         match found {
@@ -239,7 +239,7 @@ impl Machine {
         bitmap: &mut [u64],
         name: u64,
     ) -> Returned
-        ensures { λ r. ⌜ outcomeOf r (now (marks .exit)) (now (words .exit)) (now (bitmap .exit)) ≡ pinPage self name (tables (now (marks .entry)) (now (words .entry)) (now (bitmap .entry))) ⌝ }
+        ensures { λ r. ⌜ outcomeOf r (now (marks .exit)) (now (words .exit)) (now (bitmap .exit)) ≡ pinPage (machineOf self) name (tables (now (marks .entry)) (now (words .entry)) (now (bitmap .entry))) ⌝ }
     {
         self.change_kind(marks, words, bitmap, name, MOVABLE, PINNED)
     }
@@ -252,7 +252,7 @@ impl Machine {
         bitmap: &mut [u64],
         name: u64,
     ) -> Returned
-        ensures { λ r. ⌜ outcomeOf r (now (marks .exit)) (now (words .exit)) (now (bitmap .exit)) ≡ unpinPage self name (tables (now (marks .entry)) (now (words .entry)) (now (bitmap .entry))) ⌝ }
+        ensures { λ r. ⌜ outcomeOf r (now (marks .exit)) (now (words .exit)) (now (bitmap .exit)) ≡ unpinPage (machineOf self) name (tables (now (marks .entry)) (now (words .entry)) (now (bitmap .entry))) ⌝ }
     {
         self.change_kind(marks, words, bitmap, name, PINNED, MOVABLE)
     }
@@ -266,7 +266,7 @@ impl Machine {
         name: u64,
         word: u64,
     ) -> Returned
-        ensures { λ r. ⌜ outcomeOf r (now (marks .exit)) (now (words .exit)) (now (bitmap .exit)) ≡ storePage self name word (tables (now (marks .entry)) (now (words .entry)) (now (bitmap .entry))) ⌝ }
+        ensures { λ r. ⌜ outcomeOf r (now (marks .exit)) (now (words .exit)) (now (bitmap .exit)) ≡ storePage (machineOf self) name word (tables (now (marks .entry)) (now (words .entry)) (now (bitmap .entry))) ⌝ }
     {
         let found = self.look_up(marks, words, bitmap, name);
         match found {
@@ -290,7 +290,7 @@ impl Machine {
         bitmap: &mut [u64],
         name: u64,
     ) -> Returned
-        ensures { λ r. ⌜ outcomeOf r (now (marks .exit)) (now (words .exit)) (now (bitmap .exit)) ≡ readPage self name (tables (now (marks .entry)) (now (words .entry)) (now (bitmap .entry))) ⌝ }
+        ensures { λ r. ⌜ outcomeOf r (now (marks .exit)) (now (words .exit)) (now (bitmap .exit)) ≡ readPage (machineOf self) name (tables (now (marks .entry)) (now (words .entry)) (now (bitmap .entry))) ⌝ }
     {
         let found = self.look_up(marks, words, bitmap, name);
         match found {

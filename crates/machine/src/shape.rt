@@ -5,8 +5,9 @@ ghost use Prim.Native.Nat.{_≤_, _<_, _^_};
 ghost use Rattle.search.specs.Search.{every};
 ghost use Rattle.frames.specs.Areas.{areDisjoint};
 ghost use Rattle.frames.specs.Tables.{tables};
-ghost use Rattle.machine.specs.Shape.{memoryRight, areaRight, areaFits, shapeRight};
-ghost use Rattle.machine.specs.Record.{areaAt};
+ghost use Rattle.rules.specs.Shape.{memoryRight, areaRight, areaFits, shapeRight};
+ghost use Rattle.rules.specs.Record.{areaAt};
+ghost use Rattle.machine.specs.Given.{machineOf};
 use crate::Machine;
 use frames::Area;
 use frames::first_word;
@@ -58,7 +59,7 @@ impl Machine {
     // An area has a frame, no more than a block to a bit, begins and ends on a block, and lies in memory.
     fn area_right(self, a: Area) -> bool
         requires { ⌜ memoryRight (self .base .0) (self .frames) (self .order) ≡ true ⌝ }
-        ensures { λ r. ⌜ r ≡ areaRight self a ⌝ }
+        ensures { λ r. ⌜ r ≡ areaRight (machineOf self) a ⌝ }
     {
         let order = self.order;
         let block = block_of(order);
@@ -87,7 +88,7 @@ impl Machine {
     // An area shares no frame with an area before it.
     fn apart_from_lower(self, i: usize) -> bool
         requires { ⌜ i < 8 ⌝ }
-        ensures { λ r. ⌜ r ≡ every (λ k. areDisjoint (areaAt self k) (areaAt self i)) 0 i ⌝ }
+        ensures { λ r. ⌜ r ≡ every (λ k. areDisjoint (areaAt (machineOf self) k) (areaAt (machineOf self) i)) 0 i ⌝ }
     {
         let a = self.areas[i];
         let mut k = 0;
@@ -105,7 +106,7 @@ impl Machine {
     fn areas_fit(self) -> bool
         requires { ⌜ memoryRight (self .base .0) (self .frames) (self .order) ≡ true ⌝ }
         requires { ⌜ self .declared ≤ 8 ⌝ }
-        ensures { λ r. ⌜ r ≡ every (areaFits self) 0 (self .declared) ⌝ }
+        ensures { λ r. ⌜ r ≡ every (areaFits (machineOf self)) 0 (self .declared) ⌝ }
     {
         let declared = self.declared as usize;
         let mut i = 0;
@@ -124,7 +125,7 @@ impl Machine {
 
     // Whether the record has the shape that every call but boot asks, with these tables.
     pub fn shape_right(self, marks: &[u32], words: &[u64], bitmap: &[u64]) -> bool
-        ensures { λ r. ⌜ r ≡ shapeRight self (tables (now (marks .entry)) (now (words .entry)) (now (bitmap .entry))) ⌝ }
+        ensures { λ r. ⌜ r ≡ shapeRight (machineOf self) (tables (now (marks .entry)) (now (words .entry)) (now (bitmap .entry))) ⌝ }
     {
         let frames = self.frames;
         let declared = self.declared;

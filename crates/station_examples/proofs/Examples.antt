@@ -7,12 +7,12 @@ use Rattle.frames.specs.Areas.{inAreas, firstWord}
 use Rattle.frames.specs.Tables.{fill}
 use Rattle.regions.specs.Amounts.{isPowerOfTwo}
 use Rattle.regions.specs.Text.{regionsFrom, regions}
-use Rattle.machine.specs.Shape.{memoryRight, lengthsRight, areaRight, areaFits, shapeRight}
-use Rattle.machine.specs.Outcomes.{checked}
-use Rattle.machine.specs.PageCalls.{pageAt, freeOrdinary, freeInArea, putAt, putPage, dropPage, changeKind}
-use Rattle.machine.specs.DeviceCalls.{isCandidate, isGrantable, chosen, movers, targets, movePage, moveOut, takeRun, grant, laterFrames, freeRun, release}
-use Rattle.machine.specs.Declare.{alignmentFor, baseFor, sizeFor, limitFor, isVacant, declare}
-use Rattle.machine.specs.Boot.{declareAll, bootRecord, boot}
+use Rattle.rules.specs.Shape.{memoryRight, lengthsRight, areaRight, areaFits, shapeRight}
+use Rattle.rules.specs.Outcomes.{checked}
+use Rattle.rules.specs.PageCalls.{pageAt, freeOrdinary, freeInArea, putAt, putPage, dropPage, changeKind}
+use Rattle.rules.specs.DeviceCalls.{isCandidate, isGrantable, chosen, movers, targets, movePage, moveOut, takeRun, grant, laterFrames, freeRun, release}
+use Rattle.rules.specs.Declare.{alignmentFor, baseFor, sizeFor, limitFor, isVacant, declare}
+use Rattle.rules.specs.Boot.{declareAll, bootRecord, boot}
 use Rattle.station_examples.specs.Claim.{isRight, allRight}
 use Rattle.station_examples.specs.Examples.{examples}
 

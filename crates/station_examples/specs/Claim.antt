@@ -7,10 +7,9 @@ use lib.ListN.{replicate}
 use Rattle.answer.specs.declared.Answer.{Answer}
 use Rattle.frames.specs.Units.{frame}
 use Rattle.frames.specs.Tables.{Tables, tables, markAt}
-use Rattle.machine.specs.declared.Machine.{Machine}
-use Rattle.machine.specs.Record.{freshMachine, placeOf}
-use Rattle.machine.specs.Outcomes.{Outcome}
-use Rattle.machine.specs.Calls.{Call, perform}
+use Rattle.rules.specs.Record.{Machine, freshMachine, placeOf}
+use Rattle.rules.specs.Outcomes.{Outcome}
+use Rattle.rules.specs.Calls.{Call, perform}
 
 -- a call and its answer
 pub record Step : Type 0 where

@@ -4,8 +4,8 @@ use mathlib.Core.Bool.{true}
 use mathlib.Core.List.{List, [], _∷_, _++_}
 use Rattle.answer.specs.Answers.{done, refused}
 use Rattle.frames.specs.Units.{frame}
-use Rattle.machine.specs.declared.Request.{Request}
-use Rattle.machine.specs.Calls.{Call, putMovable, dropPage, pinPage, grant, release, declare, boot}
+use Rattle.rules.specs.Declare.{Request}
+use Rattle.rules.specs.Calls.{Call, putMovable, dropPage, pinPage, grant, release, declare, boot}
 use Rattle.station_examples.specs.Claim.{Step, _answers_, Mark, _holds_, Example}
 
 -- P 4, n 32, b 2, no regions; then a fixed declare of frames 8 to 23

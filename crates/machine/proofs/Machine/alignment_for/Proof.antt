@@ -1,6 +1,6 @@
 -- `machine::Machine::alignment_for` meets its contract: the two cases are those of the greater number. Assumes nothing.
-use Rattle.machine.proofs.Shapes.{memory-known}
-use Rattle.machine.specs.Declare.{alignmentFor}
+use Rattle.rules.proofs.Shapes.{memory-known}
+use Rattle.rules.specs.Declare.{alignmentFor}
 use Prim.Native.Nat.{_^_, _≤_}
 use lib.Pow.{pow-mono}
 use native.Mathlib.Omega.{arith}

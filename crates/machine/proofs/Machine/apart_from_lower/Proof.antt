@@ -8,14 +8,15 @@ use mathlib.Core.Bool.{Bool, true, false}
 use Rattle.search.specs.Search.{every}
 use Rattle.search.proofs.Ranges.{every-none, every-up, every-done, every-stops}
 use Rattle.frames.specs.Areas.{areDisjoint}
-use Rattle.machine.specs.Record.{areaAt}
+use Rattle.rules.specs.Record.{areaAt}
+use Rattle.machine.specs.Given.{machineOf}
 use Rattle.machine.proofs.Machine.apart_from_lower.Statement.{statement}
 use Rattle.machine.proofs.Machine.apart_from_lower.Tie as tie
 use Rattle.machine.proofs.Machine.apart_from_lower.Reads as reads
 use Rattle.machine.proofs.Machine.apart_from_lower.Lts as lts
 
 abbrev Inv-loop : tie.InvT-loop
-Inv-loop i self a k₀ k = (k ≤ i) × (every (λ j. areDisjoint (areaAt self j) (areaAt self i)) 0 k ≡ true)
+Inv-loop i self a k₀ k = (k ≤ i) × (every (λ j. areDisjoint (areaAt (machineOf self) j) (areaAt (machineOf self) i)) 0 k ≡ true)
 
 abbrev μ-loop : tie.MeasureT-loop
 μ-loop i self a k₀ k = i - k

@@ -8,9 +8,10 @@ use mathlib.Core.Path.{_≡_, sym, _∙_}
 use lib.Pow.{pow-pos}
 use Rattle.search.proofs.Bools.{below-or-not, and-false-right}
 use Rattle.frames.specs.Areas.{endOf}
-use Rattle.machine.specs.Record.{endFrame}
-use Rattle.machine.specs.Shape.{areaRight}
-use Rattle.machine.proofs.Shapes.{memory-known}
+use Rattle.rules.specs.Record.{endFrame}
+use Rattle.rules.specs.Shape.{areaRight}
+use Rattle.rules.proofs.Shapes.{memory-known}
+use Rattle.machine.specs.Given.{machineOf}
 use Rattle.machine.proofs.Machine.area_right.Statement.{statement}
 use Rattle.machine.proofs.Machine.area_right.Tie as tie
 
@@ -53,7 +54,7 @@ returns-5 c = let x = c .before .before .before .before .before .before .before 
 
 returns-6 : tie.Need-returns-6
 unfolding areaRight
-returns-6 c = let x = c .before .before .before .before .before .before .before .before .before .before .before .before .before .before .before .args in simp (lt-leb (endOf (x .a)) (endFrame (x .self)) (omega arith), and-false-right)
+returns-6 c = let x = c .before .before .before .before .before .before .before .before .before .before .before .before .before .before .before .args in simp (lt-leb (endOf (x .a)) (endFrame (machineOf (x .self))) (omega arith), and-false-right)
 
 returns-7 : tie.Need-returns-7
 unfolding areaRight
@@ -61,7 +62,7 @@ returns-7 c =
     let x = c .before .before .before .before .before .before .before .before .before .before .before .before .before .before .before .before .before .args in
     rw (← (c .before .before .before .before .before .before .before .before .before .before .before .before .before .before .before .before .block-of .ensures))
     (simp (le-leb 1 (x .a .count) (omega arith), le-leb (x .a .order) (x .self .order) (omega arith), eq-eqb _ _ (c .before .before .before .before .before .before .before .before .before .if3 .left), eq-eqb _ _ (c .before .before .before .before .before .before .before .if4 .left), le-leb (x .self .base .0) (x .a .base .0) (omega arith))
-    (leb-shift (x .a .count) (x .a .base .0) (endFrame (x .self)) (omega arith)))
+    (leb-shift (x .a .count) (x .a .base .0) (endFrame (machineOf (x .self))) (omega arith)))
 
 pub area-right-spec : {M : Type 1} → statement M
 area-right-spec =

@@ -9,14 +9,14 @@ use Rattle.search.specs.Search.{every}
 use Rattle.search.proofs.Bools.{and-both, and-left-false, and-right-false}
 use Rattle.search.proofs.Ranges.{every-none, every-up, every-done, every-stops}
 use Rattle.frames.specs.Areas.{areDisjoint}
-use Rattle.machine.specs.declared.Machine.{Machine}
-use Rattle.machine.specs.Record.{areaAt}
-use Rattle.machine.specs.Shape.{areaRight, areaFits}
+use Rattle.rules.specs.Record.{Machine, areaAt}
+use Rattle.rules.specs.Shape.{areaRight, areaFits}
+use Rattle.machine.specs.Given.{machineOf}
 use Rattle.machine.proofs.Machine.areas_fit.Statement.{statement}
 use Rattle.machine.proofs.Machine.areas_fit.Tie as tie
 
 abbrev Inv-loop : tie.InvT-loop
-Inv-loop self declared i₀ i = (i ≤ declared) × (every (areaFits self) 0 i ≡ true)
+Inv-loop self declared i₀ i = (i ≤ declared) × (every (areaFits (machineOf self)) 0 i ≡ true)
 
 abbrev μ-loop : tie.MeasureT-loop
 μ-loop self declared i₀ i = declared - i

@@ -1,7 +1,8 @@
 -- `machine::Machine::boot` meets its contract: the numbers and lengths, then the start, then all three tables are filled with 0. Assumes nothing.
+use Rattle.machine.specs.Given.{machineOf}
 use Rattle.machine.proofs.Starts.{bootable-is, boot-wrong, boot-refused, boot-done}
-use Rattle.machine.proofs.Checks.{returns-it}
-use Rattle.machine.specs.Shape.{lengthsRight}
+use Rattle.machine.proofs.Returns.{returns-it}
+use Rattle.rules.specs.Shape.{lengthsRight}
 use Rattle.frames.specs.Tables.{tables}
 use Rattle.search.proofs.Bools.{and-left}
 use borrow.Author.Tests.{not-true, not-false}
@@ -18,7 +19,7 @@ refused-at-requires : tie.Need-refused-at-requires
 refused-at-requires c κs = search needs
 
 returns : tie.Need-returns
-returns c = let x = c .before .before .before .before .before .before .before .args in returns-it (c .refused-at .ensures) (boot-wrong (x .self) (x .base) (x .frames) (x .order) (x .text .now) (tables (x .marks .now) (x .words .now) (x .bitmap .now)) (sym (bootable-is (x .base) (x .frames) (x .order) (tables (x .marks .now) (x .words .now) (x .bitmap .now))) ∙ sym (c .before .before .is-bootable .ensures) ∙ not-true _ (c .before .if1 .taken)))
+returns c = let x = c .before .before .before .before .before .before .before .args in returns-it (c .refused-at .ensures) (boot-wrong (machineOf (x .self)) (x .base) (x .frames) (x .order) (x .text .now) (tables (x .marks .now) (x .words .now) (x .bitmap .now)) (sym (bootable-is (x .base) (x .frames) (x .order) (tables (x .marks .now) (x .words .now) (x .bitmap .now))) ∙ sym (c .before .before .is-bootable .ensures) ∙ not-true _ (c .before .if1 .taken)))
 
 sub-start : tie.Need-sub-start
 sub-start c = search needs
@@ -39,7 +40,7 @@ same-length : tie.Need-same-length
 same-length c = search needs
 
 returns-2 : tie.Need-returns-2
-returns-2 c = let x = c .before .before .before .before .before .before .before .before .before .before .before .before .args in returns-it (c .refused-at2 .ensures) (boot-refused (x .self) (x .base) (x .frames) (x .order) (x .text .now) (tables (x .marks .now) (x .words .now) (x .bitmap .now)) (sym (bootable-is (x .base) (x .frames) (x .order) (tables (x .marks .now) (x .words .now) (x .bitmap .now))) ∙ sym (c .before .before .before .before .before .before .before .is-bootable .ensures) ∙ not-false _ (c .before .before .before .before .before .before .if1 .left)) [] refl (c .before .before .before .start .result) (c .before .before .before .start .ensures) (c .before .if2 .taken))
+returns-2 c = let x = c .before .before .before .before .before .before .before .before .before .before .before .before .args in returns-it (c .refused-at2 .ensures) (boot-refused (machineOf (x .self)) (x .base) (x .frames) (x .order) (x .text .now) (tables (x .marks .now) (x .words .now) (x .bitmap .now)) (sym (bootable-is (x .base) (x .frames) (x .order) (tables (x .marks .now) (x .words .now) (x .bitmap .now))) ∙ sym (c .before .before .before .before .before .before .before .is-bootable .ensures) ∙ not-false _ (c .before .before .before .before .before .before .if1 .left)) [] refl (c .before .before .before .start .result) (c .before .before .before .start .ensures) (c .before .if2 .taken))
 
 fill-marks-requires : tie.Need-fill-marks-requires
 fill-marks-requires c κs = search needs
@@ -63,7 +64,7 @@ same-length-4 : tie.Need-same-length-4
 same-length-4 c = search needs
 
 returns-3 : tie.Need-returns-3
-returns-3 c = let x = c .before .before .before .before .before .before .before .before .before .before .before .before .before .before .before .before .before .before .before .before .before .before .before .before .before .args in boot-done (x .self) (x .base) (x .frames) (x .order) (x .text .now) (tables (x .marks .now) (x .words .now) (x .bitmap .now)) (sym (bootable-is (x .base) (x .frames) (x .order) (tables (x .marks .now) (x .words .now) (x .bitmap .now))) ∙ sym (c .before .before .before .before .before .before .before .before .before .before .before .before .before .before .before .before .before .before .before .before .is-bootable .ensures) ∙ not-false _ (c .before .before .before .before .before .before .before .before .before .before .before .before .before .before .before .before .before .before .before .if1 .left)) [] refl (c .before .before .before .before .before .before .before .before .before .before .before .before .before .before .before .before .start .result) (c .before .before .before .before .before .before .before .before .before .before .before .before .before .before .before .before .start .ensures) (c .before .before .before .before .before .before .before .before .before .before .before .before .before .before .if2 .left) (c .before .before .before .before .before .before .before .before .before .before .before .before .fill-marks .ensures) (c .before .before .before .before .before .before .before .before .fill-words .ensures) (c .before .before .before .before .fill-words2 .ensures) (c .done .ensures)
+returns-3 c = let x = c .before .before .before .before .before .before .before .before .before .before .before .before .before .before .before .before .before .before .before .before .before .before .before .before .before .args in boot-done (machineOf (x .self)) (x .base) (x .frames) (x .order) (x .text .now) (tables (x .marks .now) (x .words .now) (x .bitmap .now)) (sym (bootable-is (x .base) (x .frames) (x .order) (tables (x .marks .now) (x .words .now) (x .bitmap .now))) ∙ sym (c .before .before .before .before .before .before .before .before .before .before .before .before .before .before .before .before .before .before .before .before .is-bootable .ensures) ∙ not-false _ (c .before .before .before .before .before .before .before .before .before .before .before .before .before .before .before .before .before .before .before .if1 .left)) [] refl (c .before .before .before .before .before .before .before .before .before .before .before .before .before .before .before .before .start .result) (c .before .before .before .before .before .before .before .before .before .before .before .before .before .before .before .before .start .ensures) (c .before .before .before .before .before .before .before .before .before .before .before .before .before .before .if2 .left) (c .before .before .before .before .before .before .before .before .before .before .before .before .fill-marks .ensures) (c .before .before .before .before .before .before .before .before .fill-words .ensures) (c .before .before .before .before .fill-words2 .ensures) (c .done .ensures)
 
 pub boot-spec : {M : Type 1} → statement M
 boot-spec =

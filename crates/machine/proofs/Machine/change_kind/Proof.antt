@@ -2,7 +2,7 @@
 -- its field. Assumes nothing.
 use Rattle.machine.proofs.PageOutcomes.{change-not, change-other, change-done}
 use Rattle.machine.proofs.Looks.{looked-at}
-use Rattle.machine.proofs.Checks.{returns-it}
+use Rattle.machine.proofs.Returns.{returns-it}
 use mathlib.Core.Path.{sym, _∙_}
 use native.Mathlib.Omega.{arith}
 use borrow.Author.Needs.{needs}

@@ -6,7 +6,8 @@ use mathlib.Core.Path.{_≡_, ap, _∙_}
 use Rattle.search.specs.Search.{lowest}
 use Rattle.frames.specs.Units.{bit}
 use Rattle.frames.specs.Areas.{bitCount}
-use Rattle.machine.specs.Record.{areaAt}
+use Rattle.rules.specs.Record.{areaAt}
+use Rattle.machine.specs.Given.{machineOf}
 use Rattle.machine.specs.DeviceSteps.{grantableAt}
 use Rattle.machine.proofs.Machine.choose_run.Statement.{statement}
 use Rattle.machine.proofs.Machine.choose_run.Tie as tie
@@ -27,7 +28,7 @@ returns : tie.Need-returns
 returns c =
     let x = c .before .before .before .before .before .before .before .args in
     c .find-run .ensures ∙
-    ap (λ (s : ℕ). bit (lowest (λ j. grantableAt (x .marks .now) (x .bitmap .now) (x .t1 .base) (areaAt (x .t1) (x .area)) s (x .count) (x .order) (bit j)) (bitCount (areaAt (x .t1) (x .area))))) (c .before .before .first-word .ensures)
+    ap (λ (s : ℕ). bit (lowest (λ j. grantableAt (x .marks .now) (x .bitmap .now) (x .t1 .base) (areaAt (machineOf (x .t1)) (x .area)) s (x .count) (x .order) (bit j)) (bitCount (areaAt (machineOf (x .t1)) (x .area))))) (c .before .before .first-word .ensures)
 
 pub choose-run-spec : {M : Type 1} → statement M
 choose-run-spec = tie.close (tie.spec mul-a element-copy-out-a first-word-requires find-run-requires returns)

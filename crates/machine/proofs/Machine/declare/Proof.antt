@@ -1,7 +1,8 @@
 -- `machine::Machine::declare` meets its contract: the shape check, then the plan, then what the plan says is written. Assumes nothing.
+use Rattle.machine.specs.Given.{machineOf, requestFor}
 use Rattle.machine.proofs.DeclareOutcomes.{declare-shape, declare-not, declare-few, declare-made}
-use Rattle.machine.proofs.ShapeFacts.{shape-memory}
-use Rattle.machine.proofs.Checks.{returns-it}
+use Rattle.rules.proofs.ShapeFacts.{shape-memory}
+use Rattle.machine.proofs.Returns.{returns-it}
 use Rattle.frames.specs.Tables.{tables}
 use borrow.Author.Tests.{not-true, not-false}
 use mathlib.Core.Path.{sym, _∙_}
@@ -43,7 +44,7 @@ clear-words-requires : tie.Need-clear-words-requires
 clear-words-requires c κs = search needs
 
 with-area-requires : tie.Need-with-area-requires
-with-area-requires c κs = let x = c .before .before .before .before .before .before .before .before .before .before .before .before .before .before .before .before .before .args in declare-few (x .self) (x .request) (tables (x .marks .now) (x .words .now) (x .bitmap .now)) (sym (c .before .before .before .before .before .before .before .before .before .before .shape-right .ensures) ∙ not-false _ (c .before .before .before .before .before .before .before .before .before .if1 .left)) (c .before .before .before .before .before .before .before .plan-area .ensures) (c .before .before .before .before .before .plan2 .given .1)
+with-area-requires c κs = let x = c .before .before .before .before .before .before .before .before .before .before .before .before .before .before .before .before .before .args in declare-few (machineOf (x .self)) (requestFor (x .request)) (tables (x .marks .now) (x .words .now) (x .bitmap .now)) (sym (c .before .before .before .before .before .before .before .before .before .before .shape-right .ensures) ∙ not-false _ (c .before .before .before .before .before .before .before .before .before .if1 .left)) (c .before .before .before .before .before .before .before .plan-area .ensures) (c .before .before .before .before .before .plan2 .given .1)
 
 done-requires : tie.Need-done-requires
 done-requires c κs = search needs
@@ -58,7 +59,7 @@ same-length-6 : tie.Need-same-length-6
 same-length-6 c = search needs
 
 returns-2 : tie.Need-returns-2
-returns-2 c = let x = c .before .before .before .before .before .before .before .before .before .before .before .before .before .before .args in returns-it (c .refused2 .ensures) (declare-not (x .self) (x .request) (tables (x .marks .now) (x .words .now) (x .bitmap .now)) (sym (c .before .before .before .before .before .before .before .shape-right .ensures) ∙ not-false _ (c .before .before .before .before .before .before .if1 .left)) (c .before .before .before .before .plan-area .ensures) (c .before .before .plan .given .1))
+returns-2 c = let x = c .before .before .before .before .before .before .before .before .before .before .before .before .before .before .args in returns-it (c .refused2 .ensures) (declare-not (machineOf (x .self)) (requestFor (x .request)) (tables (x .marks .now) (x .words .now) (x .bitmap .now)) (sym (c .before .before .before .before .before .before .before .shape-right .ensures) ∙ not-false _ (c .before .before .before .before .before .before .if1 .left)) (c .before .before .before .before .plan-area .ensures) (c .before .before .plan .given .1))
 
 same-length-7 : tie.Need-same-length-7
 same-length-7 c = search needs
@@ -70,7 +71,7 @@ same-length-9 : tie.Need-same-length-9
 same-length-9 c = search needs
 
 returns-3 : tie.Need-returns-3
-returns-3 c = let x = c .before .before .before .before .before .before .before .before .before .before .before .before .before .before .before .before .before .before .before .args in declare-made (x .self) (x .request) (tables (x .marks .now) (x .words .now) (x .bitmap .now)) (sym (c .before .before .before .before .before .before .before .before .before .before .before .before .shape-right .ensures) ∙ not-false _ (c .before .before .before .before .before .before .before .before .before .before .before .if1 .left)) (c .before .before .before .before .before .before .before .before .before .plan-area .ensures) (c .before .before .before .before .before .before .before .plan2 .given .1) (c .before .before .before .before .clear-words .ensures) (c .before .with-area .ensures) (c .done .ensures)
+returns-3 c = let x = c .before .before .before .before .before .before .before .before .before .before .before .before .before .before .before .before .before .before .before .args in declare-made (machineOf (x .self)) (requestFor (x .request)) (tables (x .marks .now) (x .words .now) (x .bitmap .now)) (sym (c .before .before .before .before .before .before .before .before .before .before .before .before .shape-right .ensures) ∙ not-false _ (c .before .before .before .before .before .before .before .before .before .before .before .if1 .left)) (c .before .before .before .before .before .before .before .before .before .plan-area .ensures) (c .before .before .before .before .before .before .before .plan2 .given .1) (c .before .before .before .before .clear-words .ensures) (c .before .with-area .ensures) (c .done .ensures)
 
 pub declare-spec : {M : Type 1} → statement M
 declare-spec =

@@ -6,8 +6,8 @@ use Rattle.frames.specs.Tables.{Tables, markAt}
 use Rattle.frames.specs.Marks.{isGranted}
 use Rattle.frames.specs.declared.Place.{Place}
 use Rattle.machine.proofs.RefusalFacts.{refusal-first, refusal-passed}
-use Rattle.machine.proofs.Shapes.{shape-known}
-use Rattle.machine.specs.Outcomes.{here, there, end, next}
+use Rattle.rules.proofs.Shapes.{shape-known}
+use Rattle.rules.specs.Outcomes.{here, there, end, next}
 use mathlib.Core.Bool.{not}
 use mathlib.Core.Path.{sym, ap, _∙_}
 use native.Mathlib.Omega.{arith}

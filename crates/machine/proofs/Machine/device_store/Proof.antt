@@ -1,6 +1,6 @@
 -- `machine::Machine::device_store` meets its contract: what its checks found says what the call does. Assumes nothing.
 use Rattle.machine.proofs.DeviceOutcomes.{place-below, granted-known, store-refused, store-done}
-use Rattle.machine.proofs.Checks.{returns-it}
+use Rattle.machine.proofs.Returns.{returns-it}
 use borrow.Author.Needs.{needs}
 use Rattle.machine.proofs.Machine.device_store.Statement.{statement}
 use Rattle.machine.proofs.Machine.device_store.Tie as tie

@@ -1,7 +1,7 @@
 -- `machine::Machine::drop_page` meets its contract: what the look-up found says what the call does. Assumes nothing.
 use Rattle.machine.proofs.PageOutcomes.{drop-not, drop-pinned, drop-done}
 use Rattle.machine.proofs.Looks.{looked-at}
-use Rattle.machine.proofs.Checks.{returns-it}
+use Rattle.machine.proofs.Returns.{returns-it}
 use mathlib.Core.Path.{sym, _∙_}
 use borrow.Author.Needs.{needs}
 use Rattle.machine.proofs.Machine.drop_page.Statement.{statement}

@@ -3,7 +3,8 @@ use borrow.Author.Needs.{needs}
 use Prim.Native.Nat.{ℕ, _≤_, _<_}
 use native.Mathlib.Omega.{arith}
 use mathlib.Core.Path.{_≡_, sym, subst, _∙_}
-use Rattle.machine.proofs.Checks.{returns-it}
+use Rattle.machine.specs.Given.{machineOf}
+use Rattle.machine.proofs.Returns.{returns-it}
 use Rattle.machine.proofs.GrantOutcomes.{asked, grant-refused, grant-none, grant-some, run-fits}
 use Rattle.machine.proofs.Machine.grant.Statement.{statement}
 use Rattle.machine.proofs.Machine.grant.Tie as tie
@@ -24,22 +25,22 @@ same-length-3 : tie.Need-same-length-3
 same-length-3 c = search needs
 
 returns : tie.Need-returns
-returns c = let x = c .before .before .before .before .before .before .before .before .before .args in returns-it (c .refused .ensures) (grant-refused (x .t1) (x .area) (x .count) (x .order) _ (c .before .before .request-refusal .ensures) (c .before .if1 .taken))
+returns c = let x = c .before .before .before .before .before .before .before .before .before .args in returns-it (c .refused .ensures) (grant-refused (machineOf (x .t1)) (x .area) (x .count) (x .order) _ (c .before .before .request-refusal .ensures) (c .before .if1 .taken))
 
 choose-run-requires : tie.Need-choose-run-requires
 choose-run-requires c κs =
     let x = c .before .before .before .before .before .before .before .before .before .before .args in
-    let q = asked (x .t1) (x .area) (x .count) (x .order) _ (c .before .before .before .request-refusal .ensures) (c .before .before .if1 .left) in
+    let q = asked (machineOf (x .t1)) (x .area) (x .count) (x .order) _ (c .before .before .before .request-refusal .ensures) (c .before .before .if1 .left) in
     (q .eight, q .searchable)
 
 mul-a : tie.Need-mul-a
 mul-a c =
     let x = c .before .before .before .before .before .before .before .before .before .before .before .args in
-    let q = asked (x .t1) (x .area) (x .count) (x .order) _ (c .before .before .before .before .request-refusal .ensures) (c .before .before .before .if1 .left) in
+    let q = asked (machineOf (x .t1)) (x .area) (x .count) (x .order) _ (c .before .before .before .before .request-refusal .ensures) (c .before .before .before .if1 .left) in
     omega (arith, q .eight)
 
 element-copy-out-a : tie.Need-element-copy-out-a
-element-copy-out-a c = let x = c .before .before .before .before .before .before .before .before .before .before .before .args in asked (x .t1) (x .area) (x .count) (x .order) _ (c .before .before .before .before .request-refusal .ensures) (c .before .before .before .if1 .left) .eight
+element-copy-out-a c = let x = c .before .before .before .before .before .before .before .before .before .before .before .args in asked (machineOf (x .t1)) (x .area) (x .count) (x .order) _ (c .before .before .before .before .request-refusal .ensures) (c .before .before .before .if1 .left) .eight
 
 bits-requires : tie.Need-bits-requires
 bits-requires c κs = search needs
@@ -60,13 +61,13 @@ returns-2 : tie.Need-returns-2
 returns-2 c =
     let x = c .before .before .before .before .before .before .before .before .before .before .before .before .before .before .before .args in
     returns-it (c .refused2 .ensures)
-    (grant-none (x .t1) (x .area) (x .count) (x .order) _ (asked (x .t1) (x .area) (x .count) (x .order) _ (c .before .before .before .before .before .before .before .before .request-refusal .ensures) (c .before .before .before .before .before .before .before .if1 .left)) _ (c .before .before .before .before .choose-run .ensures)
+    (grant-none (machineOf (x .t1)) (x .area) (x .count) (x .order) _ (asked (machineOf (x .t1)) (x .area) (x .count) (x .order) _ (c .before .before .before .before .before .before .before .before .request-refusal .ensures) (c .before .before .before .before .before .before .before .if1 .left)) _ (c .before .before .before .before .choose-run .ensures)
     (subst (λ (n : ℕ). n ≤ c .before .before .before .before .choose-run .result .0) (c .before .before .bits .ensures) (c .before .if2 .taken)))
 
 grant-run-requires : tie.Need-grant-run-requires
 grant-run-requires c κs =
     let x = c .before .before .before .before .before .before .before .before .before .before .before .before .before .before .before .before .before .args in
-    run-fits (x .t1) (x .area) (x .count) (x .order) _ (asked (x .t1) (x .area) (x .count) (x .order) _ (c .before .before .before .before .before .before .before .before .before .before .request-refusal .ensures) (c .before .before .before .before .before .before .before .before .before .if1 .left)) _ (c .before .before .before .before .before .before .choose-run .ensures)
+    run-fits (machineOf (x .t1)) (x .area) (x .count) (x .order) _ (asked (machineOf (x .t1)) (x .area) (x .count) (x .order) _ (c .before .before .before .before .before .before .before .before .before .before .request-refusal .ensures) (c .before .before .before .before .before .before .before .before .before .if1 .left)) _ (c .before .before .before .before .before .before .choose-run .ensures)
     (subst (λ (n : ℕ). c .before .before .before .before .before .before .choose-run .result .0 < n) (c .before .before .before .before .bits .ensures) (c .before .before .before .if2 .left))
 
 same-length-7 : tie.Need-same-length-7
@@ -83,7 +84,7 @@ returns-3 c =
     let x = c .before .before .before .before .before .before .before .before .before .before .before .before .before .before .before .before .before .before .before .before .before .before .before .before .args in
     c .before .before .before .before .before .before .grant-run .ensures ∙
     sym
-    (grant-some (x .t1) (x .area) (x .count) (x .order) _ (asked (x .t1) (x .area) (x .count) (x .order) _ (c .before .before .before .before .before .before .before .before .before .before .before .before .before .before .before .before .before .request-refusal .ensures) (c .before .before .before .before .before .before .before .before .before .before .before .before .before .before .before .before .if1 .left)) _ (c .before .before .before .before .before .before .before .before .before .before .before .before .before .choose-run .ensures)
+    (grant-some (machineOf (x .t1)) (x .area) (x .count) (x .order) _ (asked (machineOf (x .t1)) (x .area) (x .count) (x .order) _ (c .before .before .before .before .before .before .before .before .before .before .before .before .before .before .before .before .before .request-refusal .ensures) (c .before .before .before .before .before .before .before .before .before .before .before .before .before .before .before .before .if1 .left)) _ (c .before .before .before .before .before .before .before .before .before .before .before .before .before .choose-run .ensures)
     (subst (λ (n : ℕ). c .before .before .before .before .before .before .before .before .before .before .before .before .before .choose-run .result .0 < n) (c .before .before .before .before .before .before .before .before .before .before .before .bits .ensures) (c .before .before .before .before .before .before .before .before .before .before .if2 .left)))
 
 pub grant-spec : {M : Type 1} → statement M

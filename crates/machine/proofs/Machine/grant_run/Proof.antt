@@ -6,7 +6,8 @@ use borrow.Author.Tests.{not-true, not-false}
 use mathlib.Core.Path.{_≡_, ap, _∙_}
 use lib.Dec.{leb}
 use Rattle.frames.specs.Tables.{tables}
-use Rattle.machine.proofs.Checks.{returns-it}
+use Rattle.machine.specs.Given.{machineOf}
+use Rattle.machine.proofs.Returns.{returns-it}
 use Rattle.machine.proofs.GrantOutcomes.{targets-found, movers-found, run-refused, run-done}
 use Rattle.machine.proofs.Machine.grant_run.Statement.{statement}
 use Rattle.machine.proofs.Machine.grant_run.Tie as tie
@@ -34,8 +35,8 @@ returns c =
     let x = c .before .before .before .before .before .before .before .before .before .before .before .before .before .args in
     let t = tables (x .marks .now) (x .words .now) (x .bitmap .now) in
     returns-it (c .refused .ensures)
-    (run-refused (x .t1) t (x .area) (x .count) (x .run) _ (c .before .before .before .before .before .before .movers-in .ensures ∙ movers-found (x .t1) t (x .area) (x .count) (x .run)) _
-    (c .before .before .has-free-ordinary .ensures ∙ ap (leb (c .before .before .before .before .before .before .movers-in .result)) (targets-found (x .t1) t (x .area) (x .count) (x .run) (c .before .before .before .before .before .before .before .before .before .before .before .before .before .pre .marks-length))) (not-true _ (c .before .if1 .taken)))
+    (run-refused (machineOf (x .t1)) t (x .area) (x .count) (x .run) _ (c .before .before .before .before .before .before .movers-in .ensures ∙ movers-found (machineOf (x .t1)) t (x .area) (x .count) (x .run)) _
+    (c .before .before .has-free-ordinary .ensures ∙ ap (leb (c .before .before .before .before .before .before .movers-in .result)) (targets-found (machineOf (x .t1)) t (x .area) (x .count) (x .run) (c .before .before .before .before .before .before .before .before .before .before .before .before .before .pre .marks-length))) (not-true _ (c .before .if1 .taken)))
 
 take-run-requires : tie.Need-take-run-requires
 take-run-requires c κs = c .before .before .before .before .before .before .before .before .before .before .before .before .before .before .before .pre
@@ -57,8 +58,8 @@ returns-2 c =
     let x = c .before .before .before .before .before .before .before .before .before .before .before .before .before .before .before .before .before .before .before .before .before .before .before .args in
     let t = tables (x .marks .now) (x .words .now) (x .bitmap .now) in
     returns-it (c .done .ensures)
-    (run-done (x .t1) t (x .area) (x .count) (x .run) _ (c .before .before .before .before .before .before .before .before .before .before .before .before .before .before .before .before .movers-in .ensures ∙ movers-found (x .t1) t (x .area) (x .count) (x .run)) _
-    (c .before .before .before .before .before .before .before .before .before .before .before .before .has-free-ordinary .ensures ∙ ap (leb (c .before .before .before .before .before .before .before .before .before .before .before .before .before .before .before .before .movers-in .result)) (targets-found (x .t1) t (x .area) (x .count) (x .run) (c .before .before .before .before .before .before .before .before .before .before .before .before .before .before .before .before .before .before .before .before .before .before .before .pre .marks-length))) (not-false _ (c .before .before .before .before .before .before .before .before .before .before .before .if1 .left))
+    (run-done (machineOf (x .t1)) t (x .area) (x .count) (x .run) _ (c .before .before .before .before .before .before .before .before .before .before .before .before .before .before .before .before .movers-in .ensures ∙ movers-found (machineOf (x .t1)) t (x .area) (x .count) (x .run)) _
+    (c .before .before .before .before .before .before .before .before .before .before .before .before .has-free-ordinary .ensures ∙ ap (leb (c .before .before .before .before .before .before .before .before .before .before .before .before .before .before .before .before .movers-in .result)) (targets-found (machineOf (x .t1)) t (x .area) (x .count) (x .run) (c .before .before .before .before .before .before .before .before .before .before .before .before .before .before .before .before .before .before .before .before .before .before .before .pre .marks-length))) (not-false _ (c .before .before .before .before .before .before .before .before .before .before .before .if1 .left))
     (c .before .before .before .before .before .before .before .take-run .ensures .0) (c .before .before .before .before .before .before .before .take-run .ensures .1))
 
 pub grant-run-spec : {M : Type 1} → statement M

@@ -1,11 +1,12 @@
 -- `machine::Machine::limit_for` meets its contract: each test is one of the definition's. Assumes nothing.
-use Rattle.machine.proofs.Divisions.{down-low}
-use Rattle.machine.proofs.Rounding.{alignment-some}
-use Rattle.machine.proofs.Shapes.{memory-known}
-use Rattle.machine.specs.Declare.{limitFor}
+use Rattle.rules.proofs.Divisions.{down-low}
+use Rattle.rules.proofs.Rounding.{alignment-some}
+use Rattle.rules.proofs.Shapes.{memory-known}
+use Rattle.rules.specs.Declare.{limitFor}
 use borrow.Author.Tests.{lt-ltb, le-ltb, eq-eqb, ne-eqb}
 use native.Mathlib.Omega.{arith}
 use borrow.Author.Needs.{needs}
+use Rattle.machine.specs.Given.{machineOf, requestFor}
 use Rattle.machine.proofs.Machine.limit_for.Statement.{statement}
 use Rattle.machine.proofs.Machine.limit_for.Tie as tie
 
@@ -19,10 +20,10 @@ mul-end : tie.Need-mul-end
 mul-end c = omega (arith, memory-known _ _ _ (c .before .before .pre) .end-high)
 
 div-limit : tie.Need-div-limit
-div-limit c = omega (arith, c .before .before .alignment-for .ensures, alignment-some (c .before .before .before .args .self) (c .before .before .before .args .request))
+div-limit c = omega (arith, c .before .before .alignment-for .ensures, alignment-some (machineOf (c .before .before .before .args .self)) (requestFor (c .before .before .before .args .request)))
 
 mul-limit : tie.Need-mul-limit
-mul-limit c = omega (arith, down-low (c .before .before .before .args .request .limit) (c .before .before .alignment-for .result) (omega (arith, c .before .before .alignment-for .ensures, alignment-some (c .before .before .before .args .self) (c .before .before .before .args .request))))
+mul-limit c = omega (arith, down-low (c .before .before .before .args .request .limit) (c .before .before .alignment-for .result) (omega (arith, c .before .before .alignment-for .ensures, alignment-some (machineOf (c .before .before .before .args .self)) (requestFor (c .before .before .before .args .request)))))
 
 returns : tie.Need-returns
 unfolding limitFor

@@ -6,7 +6,7 @@ use native.Mathlib.Omega.{arith}
 use mathlib.Core.Path.{_≡_, sym, ap, _∙_}
 use Prim.Native.Nat.{ℕ}
 use mathlib.Core.Bool.{Bool, true, false, not}
-use Rattle.machine.specs.PageCalls.{pageAt}
+use Rattle.rules.specs.PageCalls.{pageAt}
 use Rattle.machine.specs.Look.{lookUp}
 use Rattle.machine.proofs.Looks.{look-live, look-none}
 use Rattle.machine.proofs.Machine.look_up.Statement.{statement}

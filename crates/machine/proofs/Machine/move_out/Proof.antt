@@ -7,12 +7,13 @@ use mathlib.Core.Path.{_≡_, refl}
 use mathlib.Core.List.{[]}
 use Rattle.frames.specs.Units.{place}
 use Rattle.frames.specs.Tables.{tables}
+use Rattle.machine.specs.Given.{machineOf}
 use Rattle.machine.proofs.Moves.{Moving, moving-start, moving-turn, moving-end}
 use Rattle.machine.proofs.Machine.move_out.Statement.{statement}
 use Rattle.machine.proofs.Machine.move_out.Tie as tie
 
 abbrev Inv : tie.InvT-loop
-Inv self ms₀ ws₀ count at₀ end low₀ ms ws at low = Moving self (tables ms₀ ws₀ []) (place at₀) count (tables ms ws []) at end low
+Inv self ms₀ ws₀ count at₀ end low₀ ms ws at low = Moving (machineOf self) (tables ms₀ ws₀ []) (place at₀) count (tables ms ws []) at end low
 
 abbrev μ : tie.MeasureT-loop
 μ self ms₀ ws₀ count at₀ end low₀ ms ws at low = end - at
@@ -21,7 +22,7 @@ add-end : tie.Need-add-end Inv μ
 add-end c = omega (arith, c .before .before .pre .0)
 
 loop-holds : tie.Need-loop-holds Inv μ
-loop-holds c = let x = c .before .before .args in moving-start (x .self) _ (x .page) (x .count) _ refl
+loop-holds c = let x = c .before .before .args in moving-start (machineOf (x .self)) _ (x .page) (x .count) _ refl
 
 move-page-requires : tie.Need-move-page-requires Inv μ
 move-page-requires c κs =
@@ -40,7 +41,7 @@ loop-less : tie.Need-loop-less Inv μ
 loop-less c = omega (arith, c .before .before .before .before .before .before .before .loop-test .taken)
 
 loop-again : tie.Need-loop-again Inv μ
-loop-again c = moving-turn (c .before .before .before .before .before .before .before .before .before .before .before .args .self) (c .before .before .before .before .before .before .before .before .loop .inv) (c .before .before .before .before .before .before .before .loop-test .taken) (c .before .before .before .before .move-page .ensures .0) (c .before .before .before .before .move-page .ensures .1)
+loop-again c = moving-turn (machineOf (c .before .before .before .before .before .before .before .before .before .before .before .args .self)) (c .before .before .before .before .before .before .before .before .loop .inv) (c .before .before .before .before .before .before .before .loop-test .taken) (c .before .before .before .before .move-page .ensures .0) (c .before .before .before .before .move-page .ensures .1)
 
 same-length : tie.Need-same-length Inv μ
 same-length c = c .before .loop .inv .same-marks
@@ -49,7 +50,7 @@ same-length-2 : tie.Need-same-length-2 Inv μ
 same-length-2 c = c .before .loop .inv .same-words
 
 returns : tie.Need-returns Inv μ
-returns c = moving-end (c .before .before .before .before .args .self) (c .before .loop .inv) (c .loop-test .left)
+returns c = moving-end (machineOf (c .before .before .before .before .args .self)) (c .before .loop .inv) (c .loop-test .left)
 
 pub move-out-spec : {M : Type 1} → statement M
 move-out-spec = tie.close (tie.spec Inv μ add-end loop-holds move-page-requires add-at loop-less loop-again same-length same-length-2 returns)

@@ -4,6 +4,7 @@ use borrow.Author.Needs.{needs}
 use mathlib.Core.Path.{_∙_}
 use mathlib.Core.List.{[]}
 use Rattle.frames.specs.Tables.{tables}
+use Rattle.machine.specs.Given.{machineOf}
 use Rattle.machine.proofs.Moves.{target-found, none-after, move-stays, moved-by}
 use Rattle.machine.proofs.Machine.move_page.Statement.{statement}
 use Rattle.machine.proofs.Machine.move_page.Tie as tie
@@ -15,7 +16,7 @@ slice-read-mark : tie.Need-slice-read-mark
 slice-read-mark c = c .before .before .before .pre .0
 
 returns : tie.Need-returns
-returns c = let x = c .before .before .before .before .args in (move-stays (x .self) (tables (x .marks .now) (x .words .now) []) (x .page) (c .if1 .taken), c .before .before .before .before .pre .4)
+returns c = let x = c .before .before .before .before .args in (move-stays (machineOf (x .self)) (tables (x .marks .now) (x .words .now) []) (x .page) (c .if1 .taken), c .before .before .before .before .pre .4)
 
 mul-word : tie.Need-mul-word
 mul-word c = search needs
@@ -42,9 +43,9 @@ returns-2 : tie.Need-returns-2
 returns-2 c =
     let x = c .before .before .before .before .before .before .before .before .before .before .before .before .before .before .before .before .before .before .before .before .before .before .args in
     let t = tables (x .marks .now) (x .words .now) [] in (
-      moved-by (x .self) t (x .page) (c .before .before .before .before .before .before .before .before .before .before .before .before .before .before .before .before .before .before .if1 .left) (c .before .before .before .before .before .before .before .before .before .before .before .before .before .before .find-free-ordinary .ensures ∙ target-found (x .self) t (x .low) (c .before .before .before .before .before .before .before .before .before .before .before .before .before .before .before .before .before .before .before .before .before .before .pre .2) (c .before .before .before .before .before .before .before .before .before .before .before .before .before .before .before .before .before .before .before .before .before .before .pre .4)) (c .before .before .before .before .before .before .before .before .before .before .before .set-page .ensures .0) (c .before .before .before .before .before .before .before .before .before .before .before .set-page .ensures .1)
+      moved-by (machineOf (x .self)) t (x .page) (c .before .before .before .before .before .before .before .before .before .before .before .before .before .before .before .before .before .before .if1 .left) (c .before .before .before .before .before .before .before .before .before .before .before .before .before .before .find-free-ordinary .ensures ∙ target-found (machineOf (x .self)) t (x .low) (c .before .before .before .before .before .before .before .before .before .before .before .before .before .before .before .before .before .before .before .before .before .before .pre .2) (c .before .before .before .before .before .before .before .before .before .before .before .before .before .before .before .before .before .before .before .before .before .before .pre .4)) (c .before .before .before .before .before .before .before .before .before .before .before .set-page .ensures .0) (c .before .before .before .before .before .before .before .before .before .before .before .set-page .ensures .1)
           (c .before .before .before .before .set-page2 .ensures .0) (c .before .before .before .before .set-page2 .ensures .1),
-      none-after (x .self) _ (x .page) (c .before .before .before .before .before .before .before .before .before .before .before .before .before .before .before .before .before .before .before .before .before .before .pre .4) (c .before .before .before .before .before .before .before .before .before .before .before .before .before .before .before .before .before .before .before .before .before .before .pre .3) (c .before .before .before .before .before .before .before .before .before .before .before .before .before .before .find-free-ordinary .ensures) (c .before .before .before .before .before .before .before .before .before .before .before .set-page .ensures .0) (c .before .before .before .before .set-page2 .ensures .0),
+      none-after (machineOf (x .self)) _ (x .page) (c .before .before .before .before .before .before .before .before .before .before .before .before .before .before .before .before .before .before .before .before .before .before .pre .4) (c .before .before .before .before .before .before .before .before .before .before .before .before .before .before .before .before .before .before .before .before .before .before .pre .3) (c .before .before .before .before .before .before .before .before .before .before .before .before .before .before .find-free-ordinary .ensures) (c .before .before .before .before .before .before .before .before .before .before .before .set-page .ensures .0) (c .before .before .before .before .set-page2 .ensures .0),
     )
 
 pub move-page-spec : {M : Type 1} → statement M

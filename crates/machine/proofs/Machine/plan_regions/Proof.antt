@@ -1,8 +1,9 @@
 -- `machine::Machine::plan_regions` meets its contract: what is left to plan is the regions from `i` on. Assumes nothing.
+use Rattle.machine.specs.Given.{machineOf}
 use Rattle.machine.proofs.Starts.{Planning, planning-start, planning-end, planning-stop, planning-few, planning-on}
 use Rattle.machine.specs.Start.{startOf}
 use Rattle.machine.specs.Plan.{plan}
-use Rattle.machine.specs.declared.Request.{Request}
+use Rattle.rules.specs.Declare.{Request}
 use Rattle.frames.specs.Tables.{tables}
 use borrow.Author.Needs.{needs}
 use mathlib.Core.Path.{sym, ap, _∙_}
@@ -13,7 +14,7 @@ use Rattle.machine.proofs.Machine.plan_regions.Statement.{statement}
 use Rattle.machine.proofs.Machine.plan_regions.Tie as tie
 
 abbrev Inv-loop : tie.InvT-loop
-Inv-loop marks room list count next₀ i₀ next i = Planning room marks list count next₀ i next
+Inv-loop marks room list count next₀ i₀ next i = Planning room marks list count (machineOf next₀) i (machineOf next)
 
 abbrev μ-loop : tie.MeasureT-loop
 μ-loop marks room list count next₀ i₀ next i = count - i
@@ -40,13 +41,13 @@ not-started-requires : tie.Need-not-started-requires Inv-loop μ-loop
 not-started-requires c κs = search needs
 
 returns : tie.Need-returns Inv-loop μ-loop
-returns c = let x = c .before .before .before .before .before .before .before .before .before .before .before .args in c .not-started .ensures ∙ ap startOf (sym (planning-stop (c .before .before .before .before .before .before .before .before .loop .inv) (omega arith) (c .before .before .before .before .plan-area .ensures ∙ ap (λ (q : Request). plan (c .before .before .before .before .before .before .before .before .loop .next) q (x .room) (tables (x .marks .now) [] [])) (c .before .before .before .before .before .request-of .ensures)) (c .before .before .plan .given .1)))
+returns c = let x = c .before .before .before .before .before .before .before .before .before .before .before .args in c .not-started .ensures ∙ ap startOf (sym (planning-stop (c .before .before .before .before .before .before .before .before .loop .inv) (omega arith) (c .before .before .before .before .plan-area .ensures ∙ ap (λ (q : Request). plan (machineOf (c .before .before .before .before .before .before .before .before .loop .next)) q (x .room) (tables (x .marks .now) [] [])) (c .before .before .before .before .before .request-of .ensures)) (c .before .before .plan .given .1)))
 
 enum-known-plan-2 : tie.Need-enum-known-plan-2 Inv-loop μ-loop
 enum-known-plan-2 c = search needs
 
 with-area-requires : tie.Need-with-area-requires Inv-loop μ-loop
-with-area-requires c κs = let x = c .before .before .before .before .before .before .before .before .before .before .args in planning-few (c .before .before .before .before .before .before .before .loop .inv) (omega arith) (c .before .before .before .plan-area .ensures ∙ ap (λ (q : Request). plan (c .before .before .before .before .before .before .before .loop .next) q (x .room) (tables (x .marks .now) [] [])) (c .before .before .before .before .request-of .ensures)) (c .before .plan2 .given .1)
+with-area-requires c κs = let x = c .before .before .before .before .before .before .before .before .before .before .args in planning-few (c .before .before .before .before .before .before .before .loop .inv) (omega arith) (c .before .before .before .plan-area .ensures ∙ ap (λ (q : Request). plan (machineOf (c .before .before .before .before .before .before .before .loop .next)) q (x .room) (tables (x .marks .now) [] [])) (c .before .before .before .before .request-of .ensures)) (c .before .plan2 .given .1)
 
 add-i : tie.Need-add-i Inv-loop μ-loop
 add-i c = omega arith
@@ -55,7 +56,7 @@ loop-less : tie.Need-loop-less Inv-loop μ-loop
 loop-less c = omega arith
 
 loop-again : tie.Need-loop-again Inv-loop μ-loop
-loop-again c = let x = c .before .before .before .before .before .before .before .before .before .before .before .args in planning-on (c .before .before .before .before .before .before .before .before .loop .inv) (omega arith) (c .before .before .before .before .plan-area .ensures ∙ ap (λ (q : Request). plan (c .before .before .before .before .before .before .before .before .loop .next) q (x .room) (tables (x .marks .now) [] [])) (c .before .before .before .before .before .request-of .ensures)) _ (c .before .before .plan2 .given .1) (c .with-area .ensures)
+loop-again c = let x = c .before .before .before .before .before .before .before .before .before .before .before .args in planning-on (c .before .before .before .before .before .before .before .before .loop .inv) (omega arith) (c .before .before .before .before .plan-area .ensures ∙ ap (λ (q : Request). plan (machineOf (c .before .before .before .before .before .before .before .before .loop .next)) q (x .room) (tables (x .marks .now) [] [])) (c .before .before .before .before .before .request-of .ensures)) _ (c .before .before .plan2 .given .1) (c .with-area .ensures)
 
 returns-2 : tie.Need-returns-2 Inv-loop μ-loop
 returns-2 c = ap startOf (sym (planning-end (c .before .loop .inv) (omega arith)))

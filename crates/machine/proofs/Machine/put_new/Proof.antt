@@ -1,7 +1,7 @@
 -- `machine::Machine::put_new` meets its contract: what the look-up found says what the put does at its place. Assumes nothing.
 use Rattle.machine.proofs.Puts.{put-full, put-done}
 use Rattle.machine.proofs.Looks.{looked-missing}
-use Rattle.machine.proofs.Checks.{returns-it}
+use Rattle.machine.proofs.Returns.{returns-it}
 use Rattle.frames.specs.declared.Place.{Place}
 use denote.Ref.{now}
 use lib.ListN.{length}

@@ -1,7 +1,7 @@
 -- `machine::Machine::put_page` meets its contract: a name that is live refuses it, and so does what the look-up refuses for another reason.
 -- Assumes nothing.
 use Rattle.machine.proofs.Puts.{put-live, put-refused}
-use Rattle.machine.proofs.Checks.{returns-it}
+use Rattle.machine.proofs.Returns.{returns-it}
 use Rattle.machine.specs.Look.{lookUp}
 use Rattle.machine.specs.declared.pages.Found.the-variants.{Not}
 use Prim.Native.Nat.{ℕ}

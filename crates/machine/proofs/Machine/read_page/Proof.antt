@@ -1,7 +1,7 @@
 -- `machine::Machine::read_page` meets its contract: what the look-up found says what the call does. Assumes nothing.
 use Rattle.machine.proofs.PageOutcomes.{read-not, read-done}
 use Rattle.machine.proofs.Looks.{looked-at}
-use Rattle.machine.proofs.Checks.{returns-it}
+use Rattle.machine.proofs.Returns.{returns-it}
 use mathlib.Core.Path.{sym, _∙_}
 use native.Mathlib.Omega.{arith}
 use borrow.Author.Needs.{needs}

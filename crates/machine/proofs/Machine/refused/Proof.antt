@@ -1,7 +1,7 @@
 -- `machine::Machine::refused` meets its contract. Assumes nothing.
 use borrow.Author.Needs.{needs}
 use mathlib.Core.Path.{ap}
-use Rattle.machine.specs.Outcomes.{returned}
+use Rattle.machine.specs.Given.{returned}
 use Rattle.machine.proofs.Machine.refused.Statement.{statement}
 use Rattle.machine.proofs.Machine.refused.Tie as tie
 

@@ -1,7 +1,7 @@
 -- `machine::Machine::refused_at` meets its contract. Assumes nothing.
-use Rattle.machine.specs.Outcomes.{returned}
 use mathlib.Core.Path.{ap}
 use borrow.Author.Needs.{needs}
+use Rattle.machine.specs.Given.{returned}
 use Rattle.machine.proofs.Machine.refused_at.Statement.{statement}
 use Rattle.machine.proofs.Machine.refused_at.Tie as tie
 

@@ -2,7 +2,7 @@
 use borrow.Author.Needs.{needs}
 use mathlib.Core.Path.{sym, ap, _∙_}
 use mathlib.Core.Bool.{not}
-use Rattle.machine.specs.Outcomes.{here, there, end, next}
+use Rattle.rules.specs.Outcomes.{here, there, end, next}
 use Rattle.machine.proofs.RefusalFacts.{refusal-first, refusal-passed}
 use Rattle.machine.proofs.Machine.request_refusal.Statement.{statement}
 use Rattle.machine.proofs.Machine.request_refusal.Tie as tie

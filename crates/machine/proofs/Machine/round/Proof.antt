@@ -1,8 +1,9 @@
 -- `machine::Machine::round` meets its contract: each amount is rounded as the definition says. Assumes nothing.
-use Rattle.machine.proofs.Rounding.{asked, amounts, alignment-some}
-use Rattle.machine.specs.Declare.{baseFor, sizeFor}
+use Rattle.rules.proofs.Rounding.{asked, amounts, alignment-some}
+use Rattle.rules.specs.Declare.{baseFor, sizeFor}
 use native.Mathlib.Omega.{arith}
 use borrow.Author.Needs.{needs}
+use Rattle.machine.specs.Given.{machineOf, requestFor}
 use Rattle.machine.proofs.Machine.round.Statement.{statement}
 use Rattle.machine.proofs.Machine.round.Tie as tie
 
@@ -10,10 +11,10 @@ alignment-for-requires : tie.Need-alignment-for-requires
 alignment-for-requires c κs = search needs
 
 round-up-requires : tie.Need-round-up-requires
-round-up-requires c κs = let x = c .before .args in (omega (arith, c .alignment-for .ensures, alignment-some (x .self) (x .request)), omega (arith, asked (x .request) (c .before .pre .1) .base-high), omega (arith, c .alignment-for .ensures, amounts (x .self) (x .request) (c .before .pre .0) (c .before .pre .1) .alignment-high))
+round-up-requires c κs = let x = c .before .args in (omega (arith, c .alignment-for .ensures, alignment-some (machineOf (x .self)) (requestFor (x .request))), omega (arith, asked (requestFor (x .request)) (c .before .pre .1) .base-high), omega (arith, c .alignment-for .ensures, amounts (machineOf (x .self)) (requestFor (x .request)) (c .before .pre .0) (c .before .pre .1) .alignment-high))
 
 round-up-requires-2 : tie.Need-round-up-requires-2
-round-up-requires-2 c κs = let x = c .before .before .args in (omega (arith, c .before .alignment-for .ensures, alignment-some (x .self) (x .request)), omega (arith, asked (x .request) (c .before .before .pre .1) .size-high), omega (arith, c .before .alignment-for .ensures, amounts (x .self) (x .request) (c .before .before .pre .0) (c .before .before .pre .1) .alignment-high))
+round-up-requires-2 c κs = let x = c .before .before .args in (omega (arith, c .before .alignment-for .ensures, alignment-some (machineOf (x .self)) (requestFor (x .request))), omega (arith, asked (requestFor (x .request)) (c .before .before .pre .1) .size-high), omega (arith, c .before .alignment-for .ensures, amounts (machineOf (x .self)) (requestFor (x .request)) (c .before .before .pre .0) (c .before .before .pre .1) .alignment-high))
 
 limit-for-requires : tie.Need-limit-for-requires
 limit-for-requires c κs = search needs

@@ -8,7 +8,7 @@ use Prim.Native.Nat.{ℕ}
 use mathlib.Core.Bool.{Bool, true, false}
 use lib.Dec.{leb}
 use Rattle.search.proofs.Bools.{and-false-right}
-use Rattle.machine.specs.Shape.{lengthsRight, shapeRight}
+use Rattle.rules.specs.Shape.{lengthsRight, shapeRight}
 use Rattle.machine.proofs.Machine.shape_right.Statement.{statement}
 use Rattle.machine.proofs.Machine.shape_right.Tie as tie
 

@@ -1,9 +1,9 @@
 -- `machine::Machine::start` meets its contract: the text's refusal, or its regions planned in turn. Assumes nothing.
-use Rattle.machine.specs.Shape.{memoryRight}
+use Rattle.rules.specs.Shape.{memoryRight}
 use mathlib.Core.Bool.{true}
 use Rattle.machine.proofs.Starts.{read-refused, read-given, read-few}
 use Rattle.machine.specs.Start.{startOf, planFrom}
-use Rattle.machine.specs.declared.Machine.{Machine}
+use Rattle.rules.specs.Record.{Machine}
 use mathlib.Core.Path.{_≡_, sym, ap, subst, _∙_}
 use borrow.Author.Needs.{needs}
 use Rattle.machine.proofs.Machine.start.Statement.{statement}

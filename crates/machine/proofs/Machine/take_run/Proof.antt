@@ -7,6 +7,7 @@ use Rattle.frames.specs.declared.Frame.{Frame}
 use Rattle.frames.specs.declared.Place.{Place}
 use Rattle.frames.specs.Units.{place}
 use Rattle.frames.specs.Tables.{tables}
+use Rattle.machine.specs.Given.{machineOf}
 use Rattle.machine.proofs.GrantOutcomes.{taken, run-in-area}
 use Rattle.machine.proofs.Machine.take_run.Statement.{statement}
 use Rattle.machine.proofs.Machine.take_run.Tie as tie
@@ -31,7 +32,7 @@ move-out-requires c κs =
       omega (arith, e, p .end-high, p .first-low, p .marks-length),
       omega (arith, p .marks-length, p .words-length),
       p .marks-length,
-      run-in-area (x .t1) (tables (x .marks .now) (x .words .now) (x .bitmap .now)) (x .area) (x .count) (x .run) (c .before .before .place-of .ensures ∙ ap (λ (f : Frame). place (f .0 - x .t1 .base .0)) (c .before .before .before .before .frame-of-bit .ensures)) (p .declared) (p .first-low) (p .in-area),
+      run-in-area (machineOf (x .t1)) (tables (x .marks .now) (x .words .now) (x .bitmap .now)) (x .area) (x .count) (x .run) (c .before .before .place-of .ensures ∙ ap (λ (f : Frame). place (f .0 - x .t1 .base .0)) (c .before .before .before .before .frame-of-bit .ensures)) (p .declared) (p .first-low) (p .in-area),
     )
 
 mark-run-requires : tie.Need-mark-run-requires
@@ -63,7 +64,7 @@ returns : tie.Need-returns
 returns c =
     let x = c .before .before .before .before .before .before .before .before .before .before .before .before .before .before .before .before .before .before .before .before .before .before .before .before .before .before .before .before .args in (
       c .before .before .before .before .before .before .before .before .before .before .before .before .before .before .before .before .before .before .before .before .before .before .before .frame-of-bit .ensures,
-      taken (x .t1) (tables (x .marks .now) (x .words .now) (x .bitmap .now)) (x .area) (x .count) (x .run)
+      taken (machineOf (x .t1)) (tables (x .marks .now) (x .words .now) (x .bitmap .now)) (x .area) (x .count) (x .run)
           (c .before .before .before .before .before .before .before .before .before .before .before .before .before .before .before .before .before .before .before .before .before .place-of .ensures ∙ ap (λ (f : Frame). place (f .0 - x .t1 .base .0)) (c .before .before .before .before .before .before .before .before .before .before .before .before .before .before .before .before .before .before .before .before .before .before .before .frame-of-bit .ensures)) (c .before .before .before .before .before .before .before .before .before .before .before .before .before .before .before .before .before .before .move-out .ensures) (c .before .before .before .before .before .before .before .before .before .before .before .mark-run .ensures) (c .before .before .before .before .before .first-word .ensures) (c .before .before .before .before .bits-for .ensures) (c .before .before .set-run .ensures),
     )
 

@@ -1,6 +1,6 @@
 -- `machine::areas::lowest_end` meets its contract: the two cases are those of the greater number. Assumes nothing.
-use Rattle.machine.proofs.Divisions.{up-high}
-use Rattle.machine.specs.Declare.{roundUp}
+use Rattle.rules.proofs.Divisions.{up-high}
+use Rattle.rules.specs.Declare.{roundUp}
 use mathlib.Core.Path.{_≡_, ap, _∙_}
 use Prim.Native.Nat.{ℕ, _+_, _*_, max}
 use native.Mathlib.Omega.{arith}

@@ -1,5 +1,5 @@
 -- `machine::areas::round_up` meets its contract: what is rounded up stays below the sum. Assumes nothing.
-use Rattle.machine.proofs.Divisions.{up-high}
+use Rattle.rules.proofs.Divisions.{up-high}
 use native.Mathlib.Omega.{arith}
 use borrow.Author.Needs.{needs}
 use Rattle.machine.proofs.areas.round_up.Statement.{statement}

@@ -1,7 +1,7 @@
 -- `machine::grants::range_refusal` meets its contract: its tests are the definition's, in the definition's order. Assumes nothing.
 use borrow.Author.Needs.{needs}
 use mathlib.Core.Path.{sym, _∙_}
-use Rattle.machine.specs.Outcomes.{here, there, end, next}
+use Rattle.rules.specs.Outcomes.{here, there, end, next}
 use Rattle.machine.proofs.RefusalFacts.{refusal-first, refusal-passed}
 use Rattle.machine.proofs.grants.range_refusal.Statement.{statement}
 use Rattle.machine.proofs.grants.range_refusal.Tie as tie

@@ -4,7 +4,7 @@ use borrow.Author.Needs.{needs}
 use borrow.Author.Tests.{le-leb, lt-leb}
 use Prim.Native.Nat.{_+_, _^_}
 use native.Mathlib.Omega.{arith}
-use Rattle.machine.specs.Shape.{memoryRight}
+use Rattle.rules.specs.Shape.{memoryRight}
 use Rattle.machine.proofs.shape.memory_right.Statement.{statement}
 use Rattle.machine.proofs.shape.memory_right.Tie as tie
 use Rattle.machine.proofs.shape.memory_right.Reads as reads

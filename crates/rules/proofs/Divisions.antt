@@ -1,0 +1,43 @@
+-- Quotients rounded up and down, for every divisor. Assumes nothing.
+--     ceiling-le, le-ceiling    a quotient rounded up is at most c just where c times the divisor is enough
+--     ceiling-some              it is 0 for 0 alone
+--     up-low, up-high           a number rounded up is at or above it, by less than the divisor
+--     down-low, down-high, down-below    a number rounded down is at or below it, by less than the divisor
+use Prim.Native.Nat.{ℕ, suc, _+_, _-_, _*_, _≤_, _<_}
+use native.Mathlib.Omega.{arith}
+use native.Mathlib.Nat.{one-mul, le-div-iff-mul-le, div-lt-iff-lt-mul, div-mul-le-self, lt-div-mul-add}
+use Rattle.search.proofs.Bools.{below-or-not}
+use Rattle.frames.specs.Areas.{ceiling}
+use Rattle.rules.specs.Declare.{roundUp, roundDown}
+
+pub ceiling-le : (x d c : ℕ) → 0 < d → x ≤ c * d → ceiling x d ≤ c
+ceiling-le x d c hd h =
+    below-or-not c (ceiling x d)
+    (λ l. absurd (let k : suc c * d ≤ x + (d - 1) = le-div-iff-mul-le hd .0 l in omega arith)) (λ l. l)
+
+pub le-ceiling : (x d c : ℕ) → 0 < d → ceiling x d ≤ c → x ≤ c * d
+le-ceiling x d c hd h =
+    let k : x + (d - 1) < suc c * d = div-lt-iff-lt-mul hd .0 (omega arith) in
+    omega arith
+
+pub ceiling-some : (x d : ℕ) → 0 < d → 1 ≤ x → 1 ≤ ceiling x d
+ceiling-some x d h some =
+    let all : 1 * d ≤ x + (d - 1) = rw one-mul (omega arith) in
+    le-div-iff-mul-le {k = d} {x = 1} {y = x + (d - 1)} h .1 all
+
+module _ (x d : ℕ) (h : 0 < d) where
+  pub down-low : roundDown x d ≤ x
+  down-low = div-mul-le-self x d
+
+  pub down-high : x < roundDown x d + d
+  down-high = lt-div-mul-add {a = x} {b = d} h
+
+  pub up-low : x ≤ roundUp x d
+  up-low = let above = lt-div-mul-add {a = x + (d - 1)} {b = d} h in omega arith
+
+  pub up-high : roundUp x d < x + d
+  up-high = let below = div-mul-le-self (x + (d - 1)) d in omega arith
+
+-- a number rounded down is below what the number is below
+pub down-below : (x d n : ℕ) → x < n → roundDown x d < n
+down-below x d n h = omega (arith, div-mul-le-self x d)

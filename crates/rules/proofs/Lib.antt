@@ -1,0 +1,12 @@
+pub mod AreaRight
+pub mod BareShape
+pub mod CheckCases
+pub mod Checks
+pub mod Divisions
+pub mod NewArea
+pub mod Placement
+pub mod Rounding
+pub mod ShapeFacts
+pub mod Shapes
+pub mod ledger
+pub mod promises

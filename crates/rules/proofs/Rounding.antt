@@ -1,0 +1,165 @@
+-- The amounts of a request that is not bad, rounded. Assumes nothing.
+--     Asked, asked                what the tests of a request say
+--     Blocks, alignment-blocks    an alignment for a declaration is a number of blocks, and so is what is rounded to it
+--     Amounts, amounts            how large the rounded amounts can be
+use Prim.Native.Nat.{ℕ, suc, _+_, _-_, _*_, _/_, _%_, _^_, _≤_, _<_}
+use native.Mathlib.Omega.{arith}
+use native.Mathlib.Nat.{mul-assoc, mul-comm, mul-div-cancel, mul-mod-left, mul-pos, max-eq-left, max-eq-right, one-mul, pow-succ'}
+use mathlib.Core.Bool.{Bool, true, false, not, _||_}
+use mathlib.Core.Path.{_≡_, sym, ap, subst, _∙_}
+use lib.Dec.{ltb, eqb}
+use lib.Pow.{pow-pos, pow-mono, pow-add}
+use borrow.Author.Tests.{eqb-true, eqb-false, eq-eqb, ltb-false, not-false}
+use Rattle.search.proofs.Bools.{by-cases, below-or-not, or-left, or-right}
+use Rattle.search.proofs.Ranges.{some-yes}
+use Rattle.frames.specs.Areas.{isMultiple}
+use Rattle.regions.specs.Amounts.{mostBytes, isPowerOfTwo, isAlignment}
+use Rattle.rules.specs.Record.{Machine}
+use Rattle.rules.specs.Declare.{Request, badRequest, roundDown, alignmentFor, baseFor, sizeFor, limitFor, endByte}
+use Rattle.rules.specs.Limits.{pageBytes}
+use Rattle.rules.specs.Shape.{memoryRight}
+use Rattle.rules.proofs.Divisions.{up-low, up-high}
+use Rattle.rules.proofs.Shapes.{Memory, memory-known}
+
+pub record Asked (r : Request) : Type 0 where
+  pub base-high : r .base ≤ mostBytes
+  pub size-high : r .size ≤ mostBytes
+  pub alignment-high : r .alignment ≤ mostBytes
+  pub size-some : 1 ≤ r .size
+  pub aligned : isAlignment (r .alignment) ≡ true
+
+pub asked : (r : Request) → badRequest r ≡ false → Asked r
+asked r e =
+    let a : Bool = ltb mostBytes (r .base) in
+    let b : Bool = ltb mostBytes (r .size) in
+    let c : Bool = ltb mostBytes (r .limit) in
+    let d : Bool = ltb mostBytes (r .alignment) in
+    let f : Bool = eqb (r .size) 0 in
+    let g : Bool = not (isAlignment (r .alignment)) in
+    let abcdf = or-left (a || b || c || d || f) g e in
+    let abcd = or-left (a || b || c || d) f abcdf in
+    let abc = or-left (a || b || c) d abcd in
+    let ab = or-left (a || b) c abc in
+    let some = eqb-false (r .size) 0 (or-right (a || b || c || d) f abcdf) in
+    record {
+      base-high = ltb-false mostBytes (r .base) (or-left a b ab);
+      size-high = ltb-false mostBytes (r .size) (or-right a b ab);
+      alignment-high = ltb-false mostBytes (r .alignment) (or-right (a || b || c) d abcd);
+      size-some = omega arith;
+      aligned = not-false (isAlignment (r .alignment)) (or-right (a || b || c || d || f) g e);
+    }
+
+-- so many blocks of 2^order pages, in bytes
+pub record Blocks (amount order : ℕ) : Type 0 where
+  pub times : ℕ
+  pub some : 1 ≤ times
+  pub is : amount ≡ times * 2 ^ order * pageBytes
+
+-- a power of two at or above a block is a number of blocks
+power-blocks : (k order : ℕ) → pageBytes * 2 ^ order ≤ 2 ^ k → Blocks (2 ^ k) order
+power-blocks k order h =
+    below-or-not k (12 + order)
+    (λ low.
+    let less : 2 ^ suc k ≤ 2 ^ (12 + order) = pow-mono {i = suc k} {j = 12 + order} low in
+    let parts : 2 ^ (12 + order) ≡ 4096 * 2 ^ order = pow-add 2 12 order in
+    let twice : 2 ^ suc k ≡ 2 * 2 ^ k = pow-succ' 2 k in
+    let positive = pow-pos k in
+    absurd (omega arith))
+    (λ high.
+    let e = k - (12 + order) in
+    let whole : k ≡ e + (order + 12) = omega arith in
+    record {
+      times = 2 ^ e;
+      some = pow-pos e;
+      is = ap (λ (x : ℕ). 2 ^ x) whole ∙ pow-add 2 e (order + 12) ∙ ap (λ (x : ℕ). 2 ^ e * x) (pow-add 2 order 12) ∙ sym (mul-assoc (2 ^ e) (2 ^ order) 4096);
+    })
+
+one-block : (order : ℕ) → Blocks (pageBytes * 2 ^ order) order
+one-block order = record { times = 1; some = omega arith; is = mul-comm 4096 (2 ^ order) ∙ ap (λ (x : ℕ). x * 4096) (sym (one-mul (2 ^ order))) }
+
+pub alignment-blocks : (m : Machine) (r : Request) → isAlignment (r .alignment) ≡ true → Blocks (alignmentFor m r) (m .order)
+unfolding alignmentFor isPowerOfTwo
+alignment-blocks m r e =
+    let block = pageBytes * 2 ^ m .order in
+    below-or-not (r .alignment) block (λ low. subst (λ (x : ℕ). Blocks x (m .order)) (sym (max-eq-right {n = r .alignment} {m = block} (omega arith))) (one-block (m .order)))
+    (λ high.
+    subst (λ (x : ℕ). Blocks x (m .order)) (sym (max-eq-left {n = r .alignment} {m = block} high))
+    (by-cases (eqb (r .alignment) 0)
+    (λ z.
+    let none = eqb-true (r .alignment) 0 z in
+    let positive = pow-pos (m .order) in
+    absurd (omega arith))
+    (λ n.
+    let w = some-yes (λ k. eqb (r .alignment) (2 ^ k)) 0 64 (power e n) in
+    let is = eqb-true (r .alignment) (2 ^ w .at) (w .hit) in
+    subst (λ (x : ℕ). Blocks x (m .order)) (sym is) (power-blocks (w .at) (m .order) (rw is at high)))))
+  where
+    power : isAlignment (r .alignment) ≡ true → eqb (r .alignment) 0 ≡ false → isPowerOfTwo (r .alignment) ≡ true
+    power e n = sym (ap (λ (b : Bool). b || isPowerOfTwo (r .alignment)) n) ∙ e
+
+-- so many times an amount of blocks: its pages, which are a multiple of a block
+module _ (c amount order : ℕ) (b : Blocks amount order) where
+  pub pages-of : c * amount / pageBytes ≡ c * (b .times * 2 ^ order)
+  pages-of =
+      ap (λ (x : ℕ). c * x / pageBytes) (b .is) ∙
+      ap (λ (x : ℕ). x / pageBytes) (sym (mul-assoc c (b .times * 2 ^ order) 4096)) ∙
+      mul-div-cancel (c * (b .times * 2 ^ order)) {n = 4096} (omega arith)
+
+  pub bytes-of : c * amount ≡ c * (b .times * 2 ^ order) * pageBytes
+  bytes-of = ap (λ (x : ℕ). c * x) (b .is) ∙ sym (mul-assoc c (b .times * 2 ^ order) 4096)
+
+  pub in-pages : c * amount ≡ c * amount / pageBytes * pageBytes
+  in-pages = bytes-of ∙ ap (λ (x : ℕ). x * pageBytes) (sym pages-of)
+
+  pub pages-multiple : isMultiple (c * amount / pageBytes) (2 ^ order) ≡ true
+  pages-multiple =
+      eq-eqb (c * amount / pageBytes % 2 ^ order) 0
+      (ap (λ (x : ℕ). x % 2 ^ order) (pages-of ∙ sym (mul-assoc c (b .times) (2 ^ order))) ∙ mul-mod-left (c * b .times) (2 ^ order))
+
+  pub pages-some : 1 ≤ c → 1 ≤ c * amount / pageBytes
+  pages-some some = rw pages-of (mul-pos {m = c} {n = b .times * 2 ^ order} some (mul-pos {m = b .times} {n = 2 ^ order} (b .some) (pow-pos order)))
+
+-- ---- the amounts
+pub alignment-some : (m : Machine) (r : Request) → 0 < alignmentFor m r
+unfolding alignmentFor
+alignment-some m r = omega (arith, pow-pos (m .order))
+
+pub limit-high : (m : Machine) (r : Request) → limitFor m r ≤ endByte m
+unfolding limitFor
+limit-high m r =
+    let limit = roundDown (r .limit) (alignmentFor m r) in
+    by-cases (eqb limit 0 || ltb (endByte m) limit) (λ e. rw e (omega arith))
+    (λ e. rw e (ltb-false (endByte m) limit (or-right (eqb limit 0) (ltb (endByte m) limit) e)))
+
+pub record Amounts (m : Machine) (r : Request) : Type 0 where
+  pub blocks : Blocks (alignmentFor m r) (m .order)
+  pub alignment-high : alignmentFor m r ≤ 2 ^ 48
+  pub base-high : baseFor m r ≤ 2 ^ 49
+  pub size-high : sizeFor m r ≤ 2 ^ 49
+  pub size-some : 1 ≤ sizeFor m r
+  pub base-pages : baseFor m r ≡ baseFor m r / pageBytes * pageBytes
+  pub size-pages : sizeFor m r ≡ sizeFor m r / pageBytes * pageBytes
+
+alignment-most : (m : Machine) (r : Request) → Memory (m .base .0) (m .frames) (m .order) → Asked r → alignmentFor m r ≤ 2 ^ 48
+unfolding alignmentFor
+alignment-most m r k a =
+    let power : 2 ^ m .order ≤ 2 ^ 10 = pow-mono (k .order-high) in
+    omega (arith, a .alignment-high)
+
+pub amounts : (m : Machine) (r : Request) → memoryRight (m .base .0) (m .frames) (m .order) ≡ true → badRequest r ≡ false → Amounts m r
+unfolding baseFor sizeFor
+amounts m r memory good =
+    let a = asked r good in
+    let d = alignmentFor m r in
+    let some = alignment-some m r in
+    let high = alignment-most m r (memory-known _ _ _ memory) a in
+    let blocks = alignment-blocks m r (a .aligned) in
+    record {
+      blocks = blocks;
+      alignment-high = high;
+      base-high = omega (arith, up-high (r .base) d some, a .base-high);
+      size-high = omega (arith, up-high (r .size) d some, a .size-high);
+      size-some = omega (arith, up-low (r .size) d some, a .size-some);
+      base-pages = in-pages _ d (m .order) blocks;
+      size-pages = in-pages _ d (m .order) blocks;
+    }

@@ -1,0 +1,79 @@
+-- The shape of a record and its tables: what makes it right. The facts that it says are `shape-known`, of the machine's proofs. Assumes nothing.
+--     Shaped, facts-shape    the facts that make it right
+--     shape-memory, lengths-facts    two of its tests
+--     shape-lengths          it goes by the tables' lengths alone
+use Prim.Native.Nat.{_≤_}
+use mathlib.Core.Bool.{Bool, true, _&&_}
+use mathlib.Core.Path.{_≡_}
+use lib.Dec.{leb, eqb}
+use lib.ListN.{length}
+use borrow.Author.Tests.{le-leb, eqb-true, eq-eqb}
+use Rattle.search.specs.Search.{every}
+use Rattle.search.proofs.Bools.{and-left, and-right, and-both}
+use Rattle.frames.specs.Tables.{Tables}
+use Rattle.rules.specs.Record.{Machine}
+use Rattle.rules.specs.Limits.{mostAreas}
+use Rattle.rules.specs.Shape.{memoryRight, lengthsRight, areaFits, wordsNeeded, shapeRight}
+
+pub record Shaped (m : Machine) (t : Tables) : Type 0 where
+  pub memory : memoryRight (m .base .0) (m .frames) (m .order) ≡ true
+  pub declared : m .declared ≤ mostAreas
+  pub marks : length (t .marks) ≡ m .frames
+  pub words : length (t .words) ≡ m .frames
+  pub areas : every (areaFits m) 0 (m .declared) ≡ true
+  pub bitmap : wordsNeeded m ≤ length (t .bitmap)
+
+module _ (m : Machine) (t : Tables) where
+  abbrev memoryTest : Bool
+  memoryTest = memoryRight (m .base .0) (m .frames) (m .order)
+
+  abbrev declaredTest : Bool
+  declaredTest = leb (m .declared) mostAreas
+
+  abbrev lengthsTest : Bool
+  lengthsTest = lengthsRight (m .frames) t
+
+  abbrev areasTest : Bool
+  areasTest = every (areaFits m) 0 (m .declared)
+
+  abbrev bitmapTest : Bool
+  bitmapTest = leb (wordsNeeded m) (length (t .bitmap))
+
+  pub lengths-facts : lengthsTest ≡ true → (length (t .marks) ≡ m .frames) × (length (t .words) ≡ m .frames)
+  unfolding lengthsRight
+  lengths-facts e = (
+    eqb-true (length (t .marks)) (m .frames) (and-left (eqb (length (t .marks)) (m .frames)) (eqb (length (t .words)) (m .frames)) e),
+    eqb-true (length (t .words)) (m .frames) (and-right (eqb (length (t .marks)) (m .frames)) (eqb (length (t .words)) (m .frames)) e),
+  )
+
+  pub facts-lengths : length (t .marks) ≡ m .frames → length (t .words) ≡ m .frames → lengthsTest ≡ true
+  unfolding lengthsRight
+  facts-lengths a b =
+      and-both (eqb (length (t .marks)) (m .frames)) (eqb (length (t .words)) (m .frames)) (eq-eqb (length (t .marks)) (m .frames) a)
+      (eq-eqb (length (t .words)) (m .frames) b)
+
+  pub shape-memory : shapeRight m t ≡ true → memoryTest ≡ true
+  unfolding shapeRight
+  shape-memory e =
+      and-left memoryTest declaredTest
+      (and-left (memoryTest && declaredTest) lengthsTest
+      (and-left (memoryTest && declaredTest && lengthsTest) areasTest
+      (and-left (memoryTest && declaredTest && lengthsTest && areasTest) bitmapTest e)))
+
+  pub facts-shape : Shaped m t → shapeRight m t ≡ true
+  unfolding shapeRight
+  facts-shape s =
+      rw (
+        s .memory,
+        le-leb (m .declared) mostAreas (s .declared),
+        facts-lengths (s .marks) (s .words),
+        s .areas,
+        le-leb (wordsNeeded m) (length (t .bitmap)) (s .bitmap),
+      )
+
+pub shape-lengths :
+    (m : Machine) (t t′ : Tables) →
+    length (t′ .marks) ≡ length (t .marks) →
+    length (t′ .words) ≡ length (t .words) → length (t′ .bitmap) ≡ length (t .bitmap) → shapeRight m t′ ≡ shapeRight m t
+unfolding shapeRight lengthsRight
+shape-lengths m t t′ a b c = rw (a, b, c)

@@ -1,0 +1,169 @@
+-- What the invariant says of a state: parts (1), (3) and (4) of demand 3. Assumes nothing.
+use Prim.Native.Nat.{ℕ, _+_, _-_, _≤_, _<_}
+use native.Mathlib.Omega.{arith}
+use mathlib.Core.Bool.{Bool, true, false, not}
+use mathlib.Core.Path.{_≡_, refl, sym, ap, _∙_}
+use lib.Dec.{leb, ltb}
+use borrow.Author.Tests.{ltb-true, lt-ltb, le-ltb, lt-leb, not-false}
+use Rattle.search.specs.Choice.{if_then_else_}
+use Rattle.search.proofs.Bools.{by-cases, below-or-not, clash, or-neither}
+use Rattle.answer.specs.Answers.{done}
+use Rattle.frames.specs.declared.Frame.{Frame}
+use Rattle.frames.specs.Units.{frame, place}
+use Rattle.frames.specs.Marks.{isPageOf, isGranted}
+use Rattle.frames.specs.Tables.{Tables, markAt, wordAt}
+use Rattle.rules.specs.Record.{Machine, placeOf, frameAt, endFrame}
+use Rattle.rules.specs.Outcomes.{Outcome, outcome}
+use Rattle.rules.specs.PageCalls.{pageAt, isLive, readPage}
+use Rattle.rules.specs.DeviceCalls.{deviceRead}
+use Rattle.rules.specs.ledger.Ledger.{grantsAt}
+use Rattle.rules.specs.ledger.Runs.{State, isRefused}
+use Rattle.rules.specs.ledger.Statement.{isLiveFrame, ReadsRight, GrantsRight, DeviceWordsRight}
+use Rattle.rules.proofs.CheckCases.{checked-cases, checked-done}
+use Rattle.rules.proofs.ledger.Names.{live-is}
+use Rattle.rules.proofs.ledger.Grants.{at-among, takes-low, takes-high}
+use Rattle.rules.proofs.ledger.Kept.{refused-number}
+use Rattle.rules.proofs.ledger.PageCalls.{FoundPage, live-page}
+use Rattle.rules.proofs.ledger.DeviceWords.{memory-low, memory-high}
+use Rattle.rules.proofs.ledger.Histories.{SoundState}
+
+module _ (s : State) (sound : SoundState s) where
+  abbrev m : Machine
+  m = s .machine
+
+  abbrev t : Tables
+  t = s .own
+
+  -- ---- (1) page reads
+
+  module _ (name : ℕ) where
+    live-same : isLive m t name ≡ s .ledger .live name
+    live-same = live-is m t name (s .ledger) (sound .names name)
+
+    read-done : s .ledger .live name ≡ true → readPage m name t ≡ outcome m (done (frameAt m (pageAt m t name) .0) (wordAt t (pageAt m t name))) t
+    unfolding readPage
+    read-done live = checked-done m t _ _ (ap not (sound .shape), (sound .names name .allowed live, (ap not (live-same ∙ live), tt)))
+
+    read-refused : s .ledger .live name ≡ false → isRefused (readPage m name t) ≡ true
+    unfolding readPage
+    read-refused dead =
+        checked-cases (λ o. isRefused o ≡ true) m t _ _ refl (refused-number m t)
+        (λ passed. clash (isLive m t name) (not-false (isLive m t name) (passed .1 .1 .0)) (live-same ∙ dead))
+
+    found : s .ledger .live name ≡ true → FoundPage m t (s .ledger) name
+    found live = live-page m t (s .ledger) sound name (live-same ∙ live)
+
+    read-only : (p : ℕ) → p < m .frames → isPageOf name (markAt t (place p)) ≡ true → s .ledger .live name ≡ true
+    read-only p h e =
+        by-cases (s .ledger .live name) (λ y. y) (λ n. clash (isPageOf name (markAt t (place p))) e (sound .names name .absent n p h))
+
+  pub reads-right : ReadsRight s
+  reads-right =
+      record {
+        accepted = λ name.
+            by-cases (s .ledger .live name) (λ live. ap (λ (o : Outcome). not (isRefused o)) (read-done name live) ∙ sym live)
+            (λ dead. ap not (read-refused name dead) ∙ sym dead);
+        word = λ name live. ap (λ (o : Outcome). o .answer .second) (read-done name live) ∙ found name live .word;
+        stands = λ name live.
+            let answer : readPage m name t .answer .first ≡ m .base .0 + pageAt m t name .0 = ap (λ (o : Outcome). o .answer .first) (read-done name live) in
+            let back : readPage m name t .answer .first - m .base .0 ≡ pageAt m t name .0 = omega arith in
+            ap (λ (x : ℕ). isPageOf name (markAt t (place x))) back ∙ found name live .here;
+        onlyFrame = λ name p h e.
+            let live = read-only name p h e in
+            ap (λ (x : ℕ). m .base .0 + x) (found name live .only p h e) ∙ sym (ap (λ (o : Outcome). o .answer .first) (read-done name live));
+      }
+
+  -- ---- (3) grants
+
+  -- a frame of a live grant lies in memory
+  live-inside : (f : Frame) → 0 < grantsAt (s .ledger .grants) f → (m .base .0 ≤ f .0) × (f .0 < endFrame m)
+  live-inside f h =
+      let w = at-among (s .ledger .grants) f h in
+      let g = sound .grants (w .by) (w .among) in
+      let low = g .low in
+      let high = g .high in
+      let a = takes-low (w .by) f (w .taken) in
+      let b = takes-high (w .by) f (w .taken) in
+      (omega arith, omega arith)
+
+  abbrev one-if : Bool → ℕ
+  one-if b = if b then 1 else 0
+
+  one-least : (b : Bool) → one-if b ≤ 1
+  one-least true = omega arith
+  one-least false = omega arith
+
+  at-frame : (f : Frame) → m .base .0 ≤ f .0 → f .0 < endFrame m → grantsAt (s .ledger .grants) f ≡ one-if (isGranted (markAt t (placeOf m f)))
+  at-frame f low high =
+      let same : m .base .0 + (f .0 - m .base .0) ≡ f .0 = omega arith in
+      ap (λ (x : ℕ). grantsAt (s .ledger .grants) (frame x)) (sym same) ∙ sound .covered (f .0 - m .base .0) (omega arith)
+
+  marked-live : (b : Bool) (n : ℕ) → n ≡ one-if b → ltb 0 n ≡ b
+  marked-live true n e = lt-ltb 0 n (omega arith)
+  marked-live false n e = le-ltb 0 n (omega arith)
+
+  pub grants-right : GrantsRight s
+  grants-right =
+      record {
+        apart = λ f.
+            below-or-not 0 (grantsAt (s .ledger .grants) f)
+            (λ h.
+            let inside = live-inside f h in
+            let e = at-frame f (inside .0) (inside .1) in
+            let least = one-least (isGranted (markAt t (placeOf m f))) in
+            omega arith)
+            (λ h. omega arith);
+        inside = λ f e. live-inside f (ltb-true 0 (grantsAt (s .ledger .grants) f) e);
+        marked = λ p h.
+            sym (marked-live (isGranted (markAt t (place p))) (grantsAt (s .ledger .grants) (frameAt m (place p))) (sound .covered p h));
+        total = sound .total;
+      }
+
+  -- ---- (4) device words
+
+  module _ (f : Frame) where
+    live-granted : isLiveFrame s f ≡ true → isGranted (markAt t (placeOf m f)) ≡ true
+    live-granted e =
+        let inside = live-inside f (ltb-true 0 (grantsAt (s .ledger .grants) f) e) in
+        sym (marked-live (isGranted (markAt t (placeOf m f))) (grantsAt (s .ledger .grants) f) (at-frame f (inside .0) (inside .1))) ∙ e
+
+    live-word : isLiveFrame s f ≡ true → wordAt t (placeOf m f) ≡ s .ledger .deviceWord (f .0)
+    live-word e =
+        let inside = live-inside f (ltb-true 0 (grantsAt (s .ledger .grants) f) e) in
+        let low = inside .0 in
+        let high = inside .1 in
+        let same : m .base .0 + (f .0 - m .base .0) ≡ f .0 = omega arith in
+        sound .places (f .0 - m .base .0) (omega arith) .granted (live-granted e) ∙ ap (s .ledger .deviceWord) same
+
+    device-done : isLiveFrame s f ≡ true → deviceRead m f t ≡ outcome m (done (wordAt t (placeOf m f)) 0) t
+    unfolding deviceRead
+    device-done e =
+        let inside = live-inside f (ltb-true 0 (grantsAt (s .ledger .grants) f) e) in
+        checked-done m t _ _ (
+          ap not (sound .shape),
+          (
+            or-neither (ltb (f .0) (m .base .0)) (leb (endFrame m) (f .0)) (le-ltb (f .0) (m .base .0) (inside .0)) (lt-leb (endFrame m) (f .0) (inside .1)),
+            (ap not (live-granted e), tt),
+          ),
+        )
+
+    device-refused : isLiveFrame s f ≡ false → isRefused (deviceRead m f t) ≡ true
+    unfolding deviceRead
+    device-refused e =
+        checked-cases (λ o. isRefused o ≡ true) m t _ _ refl (refused-number m t)
+        (λ passed.
+        let low = memory-low m f (passed .1 .0) in
+        let high = memory-high m f (passed .1 .0) in
+        let granted = not-false (isGranted (markAt t (placeOf m f))) (passed .1 .1 .0) in
+        clash (isLiveFrame s f)
+        (marked-live (isGranted (markAt t (placeOf m f))) (grantsAt (s .ledger .grants) f) (at-frame f low high) ∙ granted) e)
+
+  pub device-words-right : DeviceWordsRight s
+  device-words-right =
+      record {
+        word = live-word;
+        accepted = λ f.
+            by-cases (isLiveFrame s f) (λ e. ap (λ (o : Outcome). not (isRefused o)) (device-done f e) ∙ sym e)
+            (λ e. ap not (device-refused f e) ∙ sym e);
+        given = λ f e. ap (λ (o : Outcome). o .answer .first) (device-done f e) ∙ live-word f e;
+      }

@@ -1,0 +1,186 @@
+-- Grant keeps the invariant: the pages of its run leave, and then the run, which is free and no other grant's, is marked. Assumes nothing.
+use Prim.Native.Nat.{ℕ, suc, _+_, _-_, _*_, _%_, _^_, _≤_, _<_}
+use native.Mathlib.Omega.{arith}
+use native.Mathlib.Nat.{mul-mod-left}
+use mathlib.Core.Bool.{true, false, _&&_, _||_}
+use mathlib.Core.List.{List, _∷_}
+use mathlib.Core.Path.{_≡_, refl, sym, ap, subst, _∙_}
+use lib.Dec.{leb, ltb, eqb}
+use lib.ListN.{length, length-set}
+use borrow.Author.Tests.{ltb-false, leb-false, leb-true, eq-eqb, eqb-false}
+use Rattle.search.specs.Choice.{if_then_else_}
+use Rattle.search.specs.Search.{every}
+use Rattle.search.proofs.Bools.{and-left, and-right, or-left, or-right}
+use Rattle.search.proofs.Lowest.{found-passes}
+use Rattle.search.proofs.Ranges.{every-all}
+use Rattle.bitmap.specs.Bits.{isClear, setIn, setBits}
+use Rattle.frames.specs.declared.Area.{Area}
+use Rattle.frames.specs.Units.{frame, place, bit}
+use Rattle.frames.specs.Marks.{markOf, hasKind, canLeave, head}
+use Rattle.frames.specs.Areas.{isMultiple, endOf, perBit, bitCount, frameOfBit, bitsFor}
+use Rattle.frames.specs.Tables.{Tables, markAt, setPage, withBitmap}
+use Rattle.rules.specs.Record.{Machine, areaAt}
+use Rattle.rules.specs.Limits.{mostAlignment}
+use Rattle.rules.specs.Shape.{shapeRight}
+use Rattle.rules.specs.PageCalls.{pageAt}
+use Rattle.rules.specs.DeviceCalls.{noArea, bitmapOf, placeOfBit, isCandidate, isGrantable, chosen, movers, targets, moveOut, markRun, takeRun}
+use Rattle.rules.specs.DeviceCalls as Device
+use Rattle.rules.specs.Calls.{grant}
+use Rattle.rules.proofs.Shapes.{shape-known}
+use Rattle.rules.specs.ledger.Ledger.{Grant, Ledger, grantOf, takes, withGrants}
+use Rattle.rules.specs.ledger.Invariant.{InArea, BitsSound, Sound}
+use Rattle.rules.proofs.CheckCases.{checked-cases}
+use Rattle.rules.proofs.ledger.Marks.{isPage, page-of}
+use Rattle.frames.proofs.FillFacts.{length-fill}
+use Rattle.rules.proofs.ShapeFacts.{shape-lengths}
+use Rattle.rules.proofs.AreaRight.{AreaFacts, area-facts, in-area}
+use Rattle.bitmap.proofs.Runs.{change-length}
+use Rattle.bitmap.proofs.Word.{setting}
+use Rattle.rules.proofs.ledger.BitsSound.{bits-run, run-granted}
+use Rattle.rules.proofs.ledger.MoveOut.{CanEmpty, Emptied, move-out}
+use Rattle.rules.proofs.ledger.Kept.{Kept, kept-refused, pin-stays, done-kept}
+use Rattle.rules.proofs.ledger.GrantedRun.{run-inside, RunMarked, run-marked, now-granted, grant-sound, run-pins}
+
+-- what an accepted grant has checked of its run
+pub record Grantable (m : Machine) (t : Tables) (i count j : ℕ) : Type 0 where
+  pub declared : i < m .declared
+  pub some : 1 ≤ count
+  pub fits : j + bitsFor (areaAt m i) count ≤ bitCount (areaAt m i)
+  pub leave : (q : ℕ) → placeOfBit m i (bit j) .0 ≤ q → q < placeOfBit m i (bit j) .0 + count → canLeave (markAt t (place q)) ≡ true
+
+module _ (m : Machine) (t : Tables) (l : Ledger) (s : Sound m t l) (i count : ℕ) where
+  grantable :
+      (order : ℕ) →
+      (noArea m i || eqb count 0 || ltb mostAlignment order) ≡ false →
+      leb (bitCount (areaAt m i)) (chosen m t i count order .0) ≡ false → Grantable m t i count (chosen m t i count order .0)
+  unfolding chosen isGrantable isCandidate
+  grantable order e₂ e₇ =
+      let j = chosen m t i count order .0 in
+      let known = or-left (noArea m i || eqb count 0) (ltb mostAlignment order) e₂ in
+      let pass : isGrantable m t i count order (bit j) ≡ true =
+      found-passes (λ j. isGrantable m t i count order (bit j)) (bitCount (areaAt m i)) (leb-false (bitCount (areaAt m i)) j e₇)
+      in
+      let every-leave = every (λ q. canLeave (markAt t (place q))) (placeOfBit m i (bit j) .0) count in
+      let candidate = and-left (isCandidate m t i count order (bit j)) every-leave pass in
+      let multiple = isMultiple (frameOfBit (areaAt m i) (bit j) .0) (2 ^ order) in
+      let lies = leb (j + bitsFor (areaAt m i) count) (bitCount (areaAt m i)) in
+      let clear = every (isClear (t .bitmap) (bitmapOf m i)) j (bitsFor (areaAt m i) count) in
+      let nonzero = eqb-false count 0 (or-right (noArea m i) (eqb count 0) known) in
+      record {
+        declared = leb-false (m .declared) i (or-left (noArea m i) (eqb count 0) known);
+        some = omega arith;
+        fits = leb-true (j + bitsFor (areaAt m i) count) (bitCount (areaAt m i)) (and-right multiple lies (and-left (multiple && lies) clear candidate));
+        leave = λ q a b. every-all (λ q. canLeave (markAt t (place q))) (placeOfBit m i (bit j) .0) count (and-right (isCandidate m t i count order (bit j)) every-leave pass) q a b;
+      }
+
+  module _ (j : ℕ) (ok : Grantable m t i count j) (enough : movers t (placeOfBit m i (bit j)) count ≤ targets m t) where
+    abbrev r : ℕ
+    r = placeOfBit m i (bit j) .0
+
+    abbrev a : Area
+    a = areaAt m i
+
+    area : AreaFacts m a
+    area = area-facts m t (s .shape) i (ok .declared)
+
+    ends : a .base .0 + j * perBit a + count ≤ endOf a
+    ends = run-inside a j count (ok .fits)
+
+    in-memory : r + count ≤ m .frames
+    in-memory = let low = area .low in let high = area .high in let e = ends in let some = ok .some in omega arith
+
+    can-empty : CanEmpty m t r count
+    unfolding movers targets
+    can-empty =
+        record {
+          inside = in-memory;
+          leave = ok .leave;
+          area = λ q u v.
+              let low = area .low in
+              let e = ends in
+              in-area m i q (ok .declared) (omega arith) (omega arith);
+          room = enough;
+        }
+
+    abbrev t₁ : Tables
+    t₁ = moveOut m t (place r) count
+
+    out : Emptied m t t₁ l r count
+    out = move-out m l count r t s can-empty
+
+    abbrev t₂ : Tables
+    t₂ = withBitmap (markRun t₁ (place r) count) (setBits (t .bitmap) (bitmapOf m i) j (bitsFor a count))
+
+    marked : RunMarked t₁ t₂ r count
+    marked =
+        let shaped = shape-known m t₁ (out .sound .shape) in
+        let inside = in-memory in
+        run-marked t₁ (setBits (t .bitmap) (bitmapOf m i) j (bitsFor a count)) r count (ok .some) (rw (shaped .marks-length) inside) (rw (shaped .words-length) inside)
+
+    shape₂ : shapeRight m t₂ ≡ true
+    shape₂ =
+        shape-lengths m t₁ t₂ (length-fill 5 (setPage t₁ (place r) (markOf count head) 0 .marks) (suc r) (count - 1) ∙ length-set (t₁ .marks) r (markOf count head))
+        (length-fill 0 (setPage t₁ (place r) (markOf count head) 0 .words) (suc r) (count - 1) ∙ length-set (t₁ .words) r 0)
+        (change-length setIn (t .bitmap) (bitmapOf m i) j (bitsFor a count) ∙ ap length (sym (out .bitmap))) ∙
+        out .sound .shape
+
+    abbrev answered : ℕ
+    answered = frameOfBit a (bit j) .0
+
+    first-frame : m .base .0 + r ≡ answered
+    first-frame = let low = area .low in omega arith
+
+    abbrev new : Grant
+    new = grantOf (frame answered) count
+
+    lies-in : InArea m new
+    lies-in =
+        record {
+          area = i;
+          declared = ok .declared;
+          low = omega arith;
+          high = ends;
+          onBit = eq-eqb ((answered - a .base .0) % perBit a) 0
+              (ap (λ (x : ℕ). x % perBit a) (let same : answered - a .base .0 ≡ j * perBit a = omega arith in same) ∙ mul-mod-left j (perBit a));
+        }
+
+    bits₂ : BitsSound m t₂
+    bits₂ =
+        bits-run m t₁ t₂ (out .sound .shape) i j count (ok .declared) (ok .fits) ends setIn 1 setting
+        (ap (λ (ws : List ℕ). setBits ws (bitmapOf m i) j (bitsFor a count)) (sym (out .bitmap))) (marked .outside .marks)
+        (run-granted m t₁ t₂ (out .sound .shape) i j count (ok .declared) (ok .fits) ends (ok .some)
+        (now-granted m t₁ t₂ l (out .sound) r count (ok .some) in-memory (out .emptied) marked))
+        (out .sound .bits)
+
+    abbrev after : Ledger
+    after = withGrants l (new ∷ l .grants) (λ f. if takes new (frame f) then 0 else l .deviceWord f) (l .granted + count) (l .released)
+
+    abbrev entered : ℕ → Ledger
+    entered x =
+        withGrants l (grantOf (frame x) count ∷ l .grants) (λ f. if takes (grantOf (frame x) count) (frame f) then 0 else l .deviceWord f) (l .granted + count) (l .released)
+
+    granted : Sound m t₂ after
+    granted =
+        subst (λ (x : ℕ). Sound m t₂ (entered x)) first-frame
+        (grant-sound m t₁ t₂ l (out .sound) r count (ok .some) in-memory (out .emptied) marked shape₂
+        (subst (λ (x : ℕ). InArea m (grantOf (frame x) count)) (sym first-frame) lies-in) bits₂)
+
+    granted-stays : (x : ℕ) → l .pinned x ≡ true → pageAt m t₂ x ≡ pageAt m t x
+    granted-stays x b =
+        pin-stays m m t t₂ l after x (s .names x) (granted .names x) refl b b
+        (λ p h e k.
+        let unmoved = out .pins p k in
+        run-pins m t₁ t₂ l (out .sound) r count (ok .some) in-memory (out .emptied) marked p h (ap (hasKind 2) unmoved ∙ k)
+        (ap isPage unmoved ∙ page-of x (markAt t (place p)) e) ∙
+        unmoved)
+
+  pub grant-kept : (order : ℕ) → Kept (grant i count order) m t l (Device.grant m i count order t)
+  unfolding Device.grant takeRun
+  grant-kept order =
+      checked-cases (Kept (grant i count order) m t l) m t _ _ refl (kept-refused (grant i count order) m t l s)
+      (λ passed.
+      let j : ℕ = chosen m t i count order .0 in
+      let ok : Grantable m t i count j = grantable order (passed .1 .0) (passed .1 .1 .0) in
+      let enough : movers t (placeOfBit m i (bit j)) count ≤ targets m t = ltb-false (targets m t) (movers t (placeOfBit m i (bit j)) count) (passed .1 .1 .1 .0) in
+      done-kept (grant i count order) m t (t₂ j ok enough) l (after j ok enough) (answered j ok enough) (movers t (placeOfBit m i (bit j)) count) refl
+      (granted j ok enough) (λ x a b. (b, granted-stays j ok enough x b)))

@@ -1,0 +1,152 @@
+-- The theorem at one boot and one list: its hypotheses hold there, and what it says is computed. Assumes nothing.
+use Prim.Native.Nat.{ℕ}
+use mathlib.Core.Bool.{Bool, true, false, not}
+use mathlib.Core.List.{List, [], _∷_}
+use native.Mathlib.Omega.{arith}
+use mathlib.Core.Path.{_≡_, refl, _∙_}
+use Rattle.answer.specs.Answers.{done, refused, refusedAt}
+use Rattle.search.specs.Search.{lowestFrom, lowest, some, every, howMany, highestFrom}
+use Rattle.bitmap.specs.Bits.{isClear, changeBit, changeBits}
+use Rattle.frames.specs.Units.{frame}
+use Rattle.frames.specs.Areas.{inAreas, firstWord}
+use Rattle.frames.specs.Tables.{fill}
+use Rattle.regions.specs.Amounts.{digitOf, digitsEnd, digitsValue, unitOf, digits, number, isPowerOfTwo, amount}
+use Rattle.regions.specs.Text.{isNameByte, nameLength, isNamed, sameBytes, region, regionsFrom, regions}
+use Rattle.rules.specs.Shape.{memoryRight, lengthsRight, areaRight, areaFits, shapeRight}
+use Rattle.rules.specs.Outcomes.{checked}
+use Rattle.rules.specs.PageCalls.{pageAt, freeOrdinary, freeInArea, putAt, putPage, dropPage, changeKind, storePage, readPage}
+use Rattle.rules.specs.DeviceCalls.{isCandidate, isGrantable, chosen, movers, targets, movePage, moveOut, takeRun, grant, laterFrames, freeRun, release, deviceStore, deviceRead}
+use Rattle.rules.specs.Declare.{alignmentFor, baseFor, sizeFor, limitFor, isVacant, fitsAt, highestFit, declare}
+use Rattle.rules.specs.Boot.{declareAll, bootRecord, boot}
+use Rattle.rules.specs.ledger.Ledger.{grantOf, grantsAt, without, update}
+use Rattle.rules.specs.ledger.Runs.{Item, onOwn, onOther, State, isRefused, next, after, admitted, frameOfPage, lastPinFrame, SameList, same, otherWord, none, own, other, seenAnswers}
+use Rattle.rules.specs.ledger.Statement.{pageRead, frameRead, isGrantedPlace, isLiveFrame, outcomeOfBoot, startOfBoot, Demand3}
+use Rattle.rules.specs.ledger.Instance.{instanceBoot, instanceList, fiveAndSix}
+use Rattle.rules.proofs.ledger.Demand3.{theorem}
+
+abbrev start : State
+start = startOfBoot (instanceBoot 9)
+
+abbrev end : State
+end = after start (instanceList 77)
+
+-- what is computed of the boot, the list and the ledger
+record Computed : Type 0 where
+  -- the theorem's two hypotheses
+  pub accepted : isRefused (outcomeOfBoot (instanceBoot 9)) ≡ false
+  pub admits : admitted start (instanceList 77) ≡ true
+  -- every answer
+  pub answers :
+      seenAnswers (λ _. false) start (instanceList 77) ≡
+      done 12 4 ∷
+      done 4 0 ∷
+      done 5 0 ∷
+      done 6 0 ∷
+      done 7 0 ∷
+      done 8 0 ∷
+      done 9 0 ∷
+      done 0 0 ∷
+      done 0 0 ∷
+      done 0 0 ∷
+      refused 5 ∷
+      refused 1 ∷
+      refused 3 ∷
+      refusedAt 1 0 ∷
+      refusedAt 20 0 ∷
+      done 0 0 ∷
+      done 9 1 ∷
+      done 12 0 ∷
+      done 0 0 ∷
+      done 0 0 ∷
+      refused 9 ∷
+      done 0 0 ∷
+      done 5 77 ∷
+      done 6 33 ∷
+      done 55 0 ∷
+      []
+  -- the ledger: pages 6 and 2, the pin of page 5, the one live grant, its word, and the totals
+  pub six-live : end .ledger .live 6 ≡ true
+  pub six-word : end .ledger .word 6 ≡ 77
+  pub two-gone : end .ledger .live 2 ≡ false
+  pub five-pinned : end .ledger .pinned 5 ≡ true
+  pub five-frame : lastPinFrame 5 0 start (instanceList 77) ≡ 8
+  pub one-grant : end .ledger .grants ≡ grantOf (frame 9) 1 ∷ []
+  pub nine-live : isLiveFrame end (frame 9) ≡ true
+  pub nine-word : end .ledger .deviceWord 9 ≡ 55
+  pub thirteen-free : isLiveFrame end (frame 13) ≡ false
+  pub granted : end .ledger .granted ≡ 3
+  pub released : end .ledger .released ≡ 2
+
+computed : Computed
+unfolding after admitted lastPinFrame seenAnswers next update grantsAt without lowestFrom lowest some every howMany highestFrom isClear changeBit changeBits inAreas firstWord fill digitOf digitsEnd digitsValue unitOf digits number isPowerOfTwo amount isNameByte nameLength isNamed sameBytes region regionsFrom regions memoryRight lengthsRight areaRight areaFits shapeRight checked pageAt freeOrdinary freeInArea putAt putPage dropPage changeKind storePage readPage isCandidate isGrantable chosen movers targets movePage moveOut takeRun grant laterFrames freeRun release deviceStore deviceRead alignmentFor baseFor sizeFor limitFor isVacant fitsAt highestFit declare declareAll bootRecord boot
+computed =
+    record {
+      accepted = refl;
+      admits = refl;
+      answers = refl;
+      six-live = refl;
+      six-word = refl;
+      two-gone = refl;
+      five-pinned = refl;
+      five-frame = refl;
+      one-grant = refl;
+      nine-live = refl;
+      nine-word = refl;
+      thirteen-free = refl;
+      granted = refl;
+      released = refl;
+    }
+
+-- the theorem speaks of this boot and this list
+demand3-here : Demand3 (instanceBoot 9) (instanceList 77)
+demand3-here = theorem (instanceBoot 9) (instanceList 77) (computed .accepted) (computed .admits)
+
+-- (1) the page that moved is read where it is now, with the word that was stored before; the page that was dropped is not read
+pub read-six : pageRead end 6 .answer .second ≡ 77
+read-six = demand3-here .reads .word 6 (computed .six-live) ∙ computed .six-word
+
+pub read-two : not (isRefused (pageRead end 2)) ≡ false
+read-two = demand3-here .reads .accepted 2 ∙ computed .two-gone
+
+-- (2) the pinned page stays in the area, where it was pinned
+pub five-stays : frameOfPage end 5 ≡ 8
+five-stays = demand3-here .pins .stays 5 0 (computed .five-pinned) ∙ computed .five-frame
+
+-- (3) one frame is granted: three were, and two were released
+pub one-granted : howMany (isGrantedPlace end) 0 (end .machine .frames) ≡ 1
+one-granted =
+    let total = demand3-here .grants .total in
+    let granted = computed .granted in
+    let released = computed .released in
+    omega arith
+
+-- (4) the device reads its word at frame 9, and nothing at frame 13
+pub nine-read : frameRead end (frame 9) .answer .first ≡ 55
+nine-read = demand3-here .deviceWords .given (frame 9) (computed .nine-live) ∙ computed .nine-word
+
+pub thirteen-refused : not (isRefused (frameRead end (frame 13))) ≡ false
+thirteen-refused = demand3-here .deviceWords .accepted (frame 13) ∙ computed .thirteen-free
+
+-- (5) other words to pages 6 and 5, of which the second is refused, after a boot on other tables: the same answers, but for the words that reads of
+-- these pages give
+all-same : (chosen : ℕ → Bool) (xs : List Item) → SameList chosen xs xs
+all-same chosen [] = none
+all-same chosen (onOwn c ∷ xs) = own (same c) (all-same chosen xs)
+all-same chosen (onOther c t ∷ xs) = other (same c) (all-same chosen xs)
+
+other-words : SameList fiveAndSix (instanceList 77) (instanceList 78)
+other-words =
+    own (same _)
+    (own (same _)
+    (own (same _)
+    (own (same _)
+    (own (same _)
+    (own (same _)
+    (own (same _) (own (same _) (own (otherWord 6 77 78 refl) (own (same _) (own (otherWord 5 77 78 refl) (all-same fiveAndSix _)))))))))))
+
+pub runs-agree :
+    seenAnswers fiveAndSix (startOfBoot (instanceBoot 9)) (instanceList 77) ≡ seenAnswers fiveAndSix (startOfBoot (instanceBoot 3)) (instanceList 78)
+runs-agree =
+    demand3-here .runs (instanceBoot 3)
+    (record { base = refl; frames = refl; order = refl; text = refl; lengths = record { marks = refl; words = refl; bitmap = refl } }) .agree fiveAndSix
+    (instanceList 78) other-words

@@ -1,0 +1,11 @@
+pub mod Boot
+pub mod Calls
+pub mod Declare
+pub mod DeviceCalls
+pub mod Limits
+pub mod Outcomes
+pub mod PageCalls
+pub mod Record
+pub mod Shape
+pub mod ledger
+pub mod promises

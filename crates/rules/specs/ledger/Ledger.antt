@@ -1,0 +1,113 @@
+-- Document 01, "The ledger of demand 3": what the ledger holds, and what each accepted call changes in it. It is fed each call with its arguments,
+-- whether it was refused, and the frame a grant answers, and nothing else.
+use Prim.Native.Nat.{ℕ, _+_}
+use mathlib.Core.Bool.{Bool, true, false, _&&_, _||_}
+use mathlib.Core.List.{List, [], _∷_}
+use lib.Dec.{leb, ltb, eqb}
+use Rattle.search.specs.Choice.{if_then_else_}
+use Rattle.frames.specs.declared.Frame.{Frame}
+use Rattle.frames.specs.Units.{frame}
+use Rattle.rules.specs.Calls.{Call, putMovable, putFixed, dropPage, pinPage, unpinPage, storePage, readPage, grant, release, deviceStore, deviceRead, declare, boot}
+
+-- a live grant: its first physical frame and its count
+pub record Grant : Type 0 where
+  pub first : Frame
+  pub count : ℕ
+
+abbrev pub grantOf : Frame → ℕ → Grant
+grantOf f count = record { first = f; count = count }
+
+-- the frame is one of the grant's
+abbrev pub takes : Grant → Frame → Bool
+takes g f = leb (g .first .0) (f .0) && ltb (f .0) (g .first .0 + g .count)
+
+abbrev pub sameGrant : Grant → Grant → Bool
+sameGrant g h = eqb (g .first .0) (h .first .0) && eqb (g .count) (h .count)
+
+-- how many grants of a list have the frame; one of them is this grant; the list without this grant
+unfoldable pub grantsAt : List Grant → Frame → ℕ
+grantsAt [] f = 0
+grantsAt (g ∷ gs) f = (if takes g f then 1 else 0) + grantsAt gs f
+
+unfoldable pub isAmong : List Grant → Grant → Bool
+isAmong [] g = false
+isAmong (h ∷ hs) g = sameGrant h g || isAmong hs g
+
+unfoldable pub without : List Grant → Grant → List Grant
+without [] g = []
+without (h ∷ hs) g = if sameGrant h g then hs else h ∷ without hs g
+
+-- what is live, pinned, last stored, granted and released. Pages go by name, the words of granted frames by physical frame
+pub record Ledger : Type 0 where
+  pub live : ℕ → Bool
+  pub pinned : ℕ → Bool
+  pub word : ℕ → ℕ
+  pub grants : List Grant
+  pub deviceWord : ℕ → ℕ
+  pub granted : ℕ
+  pub released : ℕ
+
+-- nothing live, every word 0, both totals 0
+abbrev pub emptyLedger : Ledger
+emptyLedger =
+    record {
+      live = λ _. false;
+      pinned = λ _. false;
+      word = λ _. 0;
+      grants = [];
+      deviceWord = λ _. 0;
+      granted = 0;
+      released = 0;
+    }
+
+-- f with another value at k
+unfoldable pub update : {A : Type 0} → (ℕ → A) → ℕ → A → ℕ → A
+update f k v x = if eqb x k then v else f x
+
+-- a page's three entries
+abbrev pub withPage : Ledger → ℕ → Bool → Bool → ℕ → Ledger
+withPage l name live pinned word =
+    record {
+      live = update (l .live) name live;
+      pinned = update (l .pinned) name pinned;
+      word = update (l .word) name word;
+      grants = l .grants;
+      deviceWord = l .deviceWord;
+      granted = l .granted;
+      released = l .released;
+    }
+
+abbrev pub withGrants : Ledger → List Grant → (ℕ → ℕ) → ℕ → ℕ → Ledger
+withGrants l grants deviceWord granted released =
+    record {
+      live = l .live;
+      pinned = l .pinned;
+      word = l .word;
+      grants = grants;
+      deviceWord = deviceWord;
+      granted = granted;
+      released = released;
+    }
+
+-- what an accepted call changes; `answered` is the frame that a grant answers, and no other call's entry looks at it
+abbrev pub entry : Call → ℕ → Ledger → Ledger
+entry (putMovable name) answered l = withPage l name true false 0
+entry (putFixed name) answered l = withPage l name true false 0
+entry (dropPage name) answered l = withPage l name false (l .pinned name) (l .word name)
+entry (pinPage name) answered l = withPage l name (l .live name) true (l .word name)
+entry (unpinPage name) answered l = withPage l name (l .live name) false (l .word name)
+entry (storePage name word) answered l = withPage l name (l .live name) (l .pinned name) word
+entry (readPage name) answered l = l
+entry (grant area count order) answered l =
+    let g = grantOf (frame answered) count in
+    withGrants l (g ∷ l .grants) (λ f. if takes g (frame f) then 0 else l .deviceWord f) (l .granted + count) (l .released)
+entry (release area f count) answered l =
+    withGrants l (without (l .grants) (grantOf f count)) (l .deviceWord) (l .granted) (l .released + count)
+entry (deviceStore f word) answered l = withGrants l (l .grants) (update (l .deviceWord) (f .0) word) (l .granted) (l .released)
+entry (deviceRead f) answered l = l
+entry (declare request) answered l = l
+entry (boot base frames order text) answered l = l
+
+-- the ledger is fed a call, whether it was refused, and the frame it answers; refused calls change nothing
+abbrev pub fed : Call → Bool → ℕ → Ledger → Ledger
+fed call refused answered l = if refused then l else entry call answered l

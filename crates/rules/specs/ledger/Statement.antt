@@ -1,0 +1,111 @@
+-- Demand 3, as one theorem: what holds after every list of page calls, device calls, declares and refused boots that follows one accepted boot.
+-- It speaks of the calls by `perform`, the contracts' own definitions. The ledger is in Ledger.antt; the lists, what they leave and which are
+-- admitted are in Runs.antt. The theorem, at the end, has five parts, numbered here.
+use Prim.Native.Nat.{ℕ, _+_, _≤_, _<_}
+use mathlib.Core.Bool.{Bool, true, false, not}
+use mathlib.Core.List.{List}
+use mathlib.Core.Path.{_≡_}
+use lib.Dec.{ltb}
+use lib.ListN.{length}
+use Rattle.search.specs.Search.{howMany}
+use Rattle.frames.specs.declared.Frame.{Frame}
+use Rattle.frames.specs.Units.{frame, place}
+use Rattle.frames.specs.Marks.{isPageOf, isGranted}
+use Rattle.frames.specs.Tables.{Tables, markAt, wordAt}
+use Rattle.rules.specs.Record.{Machine, placeOf, frameAt, endFrame}
+use Rattle.rules.specs.Outcomes.{Outcome}
+use Rattle.rules.specs.Calls.{readPage, deviceRead, boot, perform}
+use Rattle.rules.specs.ledger.Ledger.{grantsAt}
+use Rattle.rules.specs.ledger.Runs.{Item, State, isRefused, startOf, after, admitted, frameOfPage, lastPinFrame, SameList, seenAnswers}
+
+-- a read is made with the record and the tables that the list left
+abbrev pub pageRead : State → ℕ → Outcome
+pageRead s name = perform (readPage name) (s .machine) (s .own)
+
+abbrev pub frameRead : State → Frame → Outcome
+frameRead s f = perform (deviceRead f) (s .machine) (s .own)
+
+-- the mark at a table place is of kind 4 or 5; a live grant of the ledger has the frame
+abbrev pub isGrantedPlace : State → ℕ → Bool
+isGrantedPlace s p = isGranted (markAt (s .own) (place p))
+
+abbrev pub isLiveFrame : State → Frame → Bool
+isLiveFrame s f = ltb 0 (grantsAt (s .ledger .grants) f)
+
+-- (1) a page read with any number as name is accepted just if the ledger says live, and then gives the ledger's word; its frame is where the
+-- name's one mark stands
+pub record ReadsRight (s : State) : Type 0 where
+  pub accepted : (name : ℕ) → not (isRefused (pageRead s name)) ≡ s .ledger .live name
+  pub word : (name : ℕ) → s .ledger .live name ≡ true → pageRead s name .answer .second ≡ s .ledger .word name
+  pub stands :
+      (name : ℕ) →
+      s .ledger .live name ≡ true → isPageOf name (markAt (s .own) (placeOf (s .machine) (frame (pageRead s name .answer .first)))) ≡ true
+  pub onlyFrame :
+      (name p : ℕ) →
+      p < s .machine .frames →
+      isPageOf name (markAt (s .own) (place p)) ≡ true → frameAt (s .machine) (place p) .0 ≡ pageRead s name .answer .first
+
+-- (2) a pinned page's frame is the same now as right after its last accepted pin; `none` is any number, so there was such a pin
+pub record PinsStay (start : State) (items : List Item) : Type 0 where
+  pub stays :
+      (name none : ℕ) →
+      after start items .ledger .pinned name ≡ true → frameOfPage (after start items) name ≡ lastPinFrame name none start items
+
+-- (3) no two live grants share a frame; the frames with a mark of kind 4 or 5 are just the frames of the live grants; their number is the frames
+-- granted less the frames released
+pub record GrantsRight (s : State) : Type 0 where
+  pub apart : (f : Frame) → grantsAt (s .ledger .grants) f ≤ 1
+  pub inside : (f : Frame) → isLiveFrame s f ≡ true → (s .machine .base .0 ≤ f .0) × (f .0 < endFrame (s .machine))
+  pub marked : (p : ℕ) → p < s .machine .frames → isGrantedPlace s p ≡ isLiveFrame s (frameAt (s .machine) (place p))
+  pub total : howMany (isGrantedPlace s) 0 (s .machine .frames) + s .ledger .released ≡ s .ledger .granted
+
+-- (4) each frame of a live grant holds the ledger's word for it; a device read is accepted just for these frames, and gives it
+pub record DeviceWordsRight (s : State) : Type 0 where
+  pub word : (f : Frame) → isLiveFrame s f ≡ true → wordAt (s .own) (placeOf (s .machine) f) ≡ s .ledger .deviceWord (f .0)
+  pub accepted : (f : Frame) → not (isRefused (frameRead s f)) ≡ isLiveFrame s f
+  pub given : (f : Frame) → isLiveFrame s f ≡ true → frameRead s f .answer .first ≡ s .ledger .deviceWord (f .0)
+
+-- (5) a run of the same calls agrees with this one in every answer, but for the words that reads of the chosen names give
+pub record RunsAgree (start start′ : State) (items : List Item) : Type 0 where
+  pub agree :
+      (chosen : ℕ → Bool) (items′ : List Item) → SameList chosen items items′ → seenAnswers chosen start items ≡ seenAnswers chosen start′ items′
+
+pub record SameLengths (t t′ : Tables) : Type 0 where
+  pub marks : length (t .marks) ≡ length (t′ .marks)
+  pub words : length (t .words) ≡ length (t′ .words)
+  pub bitmap : length (t .bitmap) ≡ length (t′ .bitmap)
+
+-- a boot with its numbers and its text, and the record and the tables that it is given
+pub record Boot : Type 0 where
+  pub base : ℕ
+  pub frames : ℕ
+  pub order : ℕ
+  pub text : List ℕ
+  pub given : Machine
+  pub lent : Tables
+
+abbrev pub outcomeOfBoot : Boot → Outcome
+outcomeOfBoot b = perform (boot (b .base) (b .frames) (b .order) (b .text)) (b .given) (b .lent)
+
+abbrev pub startOfBoot : Boot → State
+startOfBoot b = startOf (outcomeOfBoot b)
+
+-- the same boot, given another record and lent other tables of the same lengths
+pub record SameBoot (b c : Boot) : Type 0 where
+  pub base : b .base ≡ c .base
+  pub frames : b .frames ≡ c .frames
+  pub order : b .order ≡ c .order
+  pub text : b .text ≡ c .text
+  pub lengths : SameLengths (b .lent) (c .lent)
+
+pub record Demand3 (b : Boot) (items : List Item) : Type 0 where
+  pub reads : ReadsRight (after (startOfBoot b) items)
+  pub pins : PinsStay (startOfBoot b) items
+  pub grants : GrantsRight (after (startOfBoot b) items)
+  pub deviceWords : DeviceWordsRight (after (startOfBoot b) items)
+  pub runs : (c : Boot) → SameBoot b c → RunsAgree (startOfBoot b) (startOfBoot c) items
+
+-- the theorem: every accepted boot, whatever its numbers, text, record and tables, and every list after it that document 01 admits. The second
+-- run of (5) needs no such hypotheses of its own
+abbrev pub Theorem : Type 0
+Theorem = (b : Boot) (items : List Item) → isRefused (outcomeOfBoot b) ≡ false → admitted (startOfBoot b) items ≡ true → Demand3 b items
