@@ -1,5 +1,6 @@
 // Document 01's example E10, with its three limits, and its text that gives the area of machine A: each line is what a call answered.
 use answer::Answer;
+use frames::Frame;
 use libc::STDOUT_FILENO;
 use machine::Machine;
 use machine::Request;
@@ -35,7 +36,7 @@ fn main() {
     let mut marks = [0u32; 32];
     let mut words = [0u64; 32];
     let mut bitmap = [0u64; 40];
-    let booted = Machine::fresh().boot(&mut marks, &mut words, &mut bitmap, 4, 32, 2, b"");
+    let booted = Machine::fresh().boot(&mut marks, &mut words, &mut bitmap, Frame(4), 32, 2, b"");
     write_answer(0, booted.answer);
     let m = booted.machine;
     let first = m.declare(&mut marks, &mut words, &mut bitmap, sized(1, 0));
@@ -48,7 +49,7 @@ fn main() {
         &mut marks,
         &mut words,
         &mut bitmap,
-        4,
+        Frame(4),
         32,
         2,
         b"a=64K@32768",

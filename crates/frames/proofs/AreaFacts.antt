@@ -12,7 +12,7 @@ use lib.Pow.{shl-exact}
 use borrow.Author.Tests.{lt-ltb, le-ltb, le-leb, lt-leb, leb-true, ltb-true}
 use Rattle.search.specs.Search.{lowest}
 use Rattle.search.proofs.Bools.{below-or-not, clash, and-left, and-right, and-both, and-false-right}
-use Rattle.search.proofs.Lowest.{found-passes, found-low}
+use Rattle.search.proofs.Lowest.{found-low}
 use Rattle.search.proofs.Ranges.{some-hit, none-some, some-no}
 use Rattle.frames.specs.declared.Area.{Area}
 use Rattle.frames.specs.declared.Frame.{Frame}
@@ -71,9 +71,6 @@ module _ (areas : List Area) (n : ℕ) (f : Frame) where
       (λ h. rw (List·getD-eq-default areas noArea {n = i} (omega arith)) (holds-above noArea (f .0) (omega arith))))
 
   -- so a search of the areas tells whether one holds the frame
-  pub found-area : lowest (holderOf areas f) (min n 8) < min n 8 → inAreas areas n f ≡ true
-  found-area h = in-area (lowest (holderOf areas f) (min n 8)) (omega arith) (found-passes (holderOf areas f) (min n 8) h)
-
   pub no-area : length areas ≡ 8 → min n 8 ≤ lowest (holderOf areas f) (min n 8) → inAreas areas n f ≡ false
   no-area e h = out-of-areas e (λ i l. found-low (holderOf areas f) (min n 8) i (omega arith))
 

@@ -1,13 +1,14 @@
 // What an area holds, and its share of the bitmap. Frame numbers are compared by their differences: no sum of two of them is made.
 ghost use Prim.Native.Nat.{_<_, _+_, _-_, min};
 ghost use mathlib.Core.Path.{_≡_};
-ghost use mathlib.Core.Bool.{not};
 ghost use Rattle.search.specs.Search.{lowest};
 ghost use Rattle.frames.specs.Units.{frame};
 ghost use Rattle.frames.specs.Runs.{holderOf, StartsBy, PastArea, NextArea, OrdinaryRun};
-ghost use Rattle.frames.specs.Areas.{holdsFrame, inAreas, ceiling, endOf, bitCount, wordCount, firstWord, bitsFor};
+ghost use Rattle.frames.specs.Areas.{holdsFrame, ceiling, endOf, bitCount, wordCount, firstWord, bitsFor};
 use crate::Area;
 use crate::Frame;
+use crate::Place;
+use crate::units::place_of;
 
 // x / d rounded up.
 fn ceiling(x: u64, d: u64) -> u64
@@ -53,71 +54,60 @@ impl Area {
     }
 
     // The frame at place `at` of a table that begins at frame `base` is the area's.
-    fn holds(self, base: Frame, at: usize) -> bool
-        ensures { λ r. ⌜ r ≡ holdsFrame self (frame (base .0 + at)) ⌝ }
+    fn holds(self, base: Frame, at: Place) -> bool
+        ensures { λ r. ⌜ r ≡ holdsFrame self (frame (base .0 + at .0)) ⌝ }
     {
-        let first = self.base.0;
-        let zero = base.0;
-        let count = self.count;
-        if zero <= first {
-            let before = first - zero;
-            if (at as u64) < before {
+        if base.0 <= self.base.0 {
+            let start = place_of(base, self.base);
+            if at.0 < start.0 {
                 return false;
             }
-            return at as u64 - before < count;
+            return ((at.0 - start.0) as u64) < self.count;
         }
-        let past = zero - first;
-        if count <= past {
+        let past = base.0 - self.base.0;
+        if self.count <= past {
             return false;
         }
-        (at as u64) < count - past
+        (at.0 as u64) < self.count - past
     }
 
-    // The place after the area's last, or `len` where that comes first.
-    fn end_place(self, base: Frame, len: usize) -> usize
-        ensures { λ r. ⌜ r ≡ min (endOf self - base .0) len ⌝ }
+    // The place after the area's last, or `end` where that comes first.
+    fn end_place(self, base: Frame, end: Place) -> Place
+        ensures { λ r. ⌜ r .0 ≡ min (endOf self - base .0) (end .0) ⌝ }
     {
-        let first = self.base.0;
-        let zero = base.0;
-        let count = self.count;
-        if zero <= first {
-            let before = first - zero;
-            if len as u64 <= before {
-                return len;
+        if base.0 <= self.base.0 {
+            let start = place_of(base, self.base);
+            if end.0 <= start.0 {
+                return end;
             }
-            if len as u64 - before <= count {
-                return len;
+            if (end.0 - start.0) as u64 <= self.count {
+                return end;
             }
-            return (before + count) as usize;
+            return Place(start.0 + self.count as usize);
         }
-        let past = zero - first;
-        if count <= past {
-            return 0;
+        let past = base.0 - self.base.0;
+        if self.count <= past {
+            return Place(0);
         }
-        let end = count - past;
-        if len as u64 <= end {
-            return len;
+        let left = self.count - past;
+        if end.0 as u64 <= left {
+            return end;
         }
-        end as usize
+        Place(left as usize)
     }
 
     // The area's first place where that lies after `at` and before `stop`, else `stop`.
-    fn start_place(self, base: Frame, at: usize, stop: usize) -> usize
-        ensures { λ r. ⌜ StartsBy self base at stop r ⌝ }
+    fn start_place(self, base: Frame, at: Place, stop: Place) -> Place
+        ensures { λ r. ⌜ StartsBy self base (at .0) (stop .0) (r .0) ⌝ }
     {
-        let first = self.base.0;
-        let zero = base.0;
-        if first <= zero {
+        let start = place_of(base, self.base);
+        if start.0 <= at.0 {
             return stop;
         }
-        let start = first - zero;
-        if start <= at as u64 {
+        if stop.0 <= start.0 {
             return stop;
         }
-        if stop as u64 <= start {
-            return stop;
-        }
-        start as usize
+        start
     }
 }
 
@@ -132,8 +122,8 @@ pub(crate) fn in_use(declared: u64) -> usize
 }
 
 // The number of the lowest area that holds place `at`; where none does, the number of areas to look at.
-fn area_of(base: Frame, areas: [Area; 8], declared: u64, at: usize) -> usize
-    ensures { λ r. ⌜ r ≡ lowest (holderOf areas (frame (base .0 + at))) (min declared 8) ⌝ }
+fn area_of(base: Frame, areas: [Area; 8], declared: u64, at: Place) -> usize
+    ensures { λ r. ⌜ r ≡ lowest (holderOf areas (frame (base .0 + at .0))) (min declared 8) ⌝ }
 {
     let end = in_use(declared);
     let mut k = 0;
@@ -147,39 +137,28 @@ fn area_of(base: Frame, areas: [Area; 8], declared: u64, at: usize) -> usize
     k
 }
 
-// The frame at place `at` is in none of the first `declared` areas.
-pub fn is_ordinary(base: Frame, areas: [Area; 8], declared: u64, at: usize) -> bool
-    ensures { λ r. ⌜ r ≡ not (inAreas areas declared (frame (base .0 + at))) ⌝ }
-{
-    let k = area_of(base, areas, declared, at);
-    if k < in_use(declared) {
-        return false;
-    }
-    true
-}
-
-// The end of an area that holds place `at`, or `at` itself where it is ordinary.
-fn past_area(base: Frame, areas: [Area; 8], declared: u64, at: usize, len: usize) -> usize
-    requires { ⌜ at < len ⌝ }
-    ensures { λ r. ⌜ PastArea base areas declared at len r ⌝ }
+// The end of an area that holds place `at`, or `at` itself where it is ordinary; `end` is the place after the tables' last.
+fn past_area(base: Frame, areas: [Area; 8], declared: u64, at: Place, end: Place) -> Place
+    requires { ⌜ at .0 < end .0 ⌝ }
+    ensures { λ r. ⌜ PastArea base areas declared (at .0) (end .0) (r .0) ⌝ }
 {
     let k = area_of(base, areas, declared, at);
     if in_use(declared) <= k {
         return at;
     }
     let area = areas[k];
-    area.end_place(base, len)
+    area.end_place(base, end)
 }
 
-// Up to here the places from the ordinary place `at` on are ordinary too: the next first place of an area, or `len`.
-fn next_area(base: Frame, areas: [Area; 8], declared: u64, at: usize, len: usize) -> usize
-    requires { ⌜ at < len ⌝ }
-    ensures { λ r. ⌜ NextArea base areas declared at len r ⌝ }
+// Up to here the places from the ordinary place `at` on are ordinary too: the next first place of an area, or `end`.
+fn next_area(base: Frame, areas: [Area; 8], declared: u64, at: Place, end: Place) -> Place
+    requires { ⌜ at .0 < end .0 ⌝ }
+    ensures { λ r. ⌜ NextArea base areas declared (at .0) (end .0) (r .0) ⌝ }
 {
-    let end = in_use(declared);
-    let mut stop = len;
+    let last = in_use(declared);
+    let mut stop = end;
     let mut k = 0;
-    while k < end {
+    while k < last {
         let area = areas[k];
         stop = area.start_place(base, at, stop);
         k += 1;
@@ -189,34 +168,35 @@ fn next_area(base: Frame, areas: [Area; 8], declared: u64, at: usize, len: usize
 
 // Some places in a row: the first, and the one after the last.
 pub(crate) struct Run {
-    pub from: usize,
-    pub end: usize,
+    pub from: Place,
+    pub end: Place,
 }
 
-// The next ordinary places from `at` on; none of them, at `len`, where all that is left is in areas.
+// The next ordinary places from `at` on; none of them, at `end`, where all that is left is in areas.
 pub(crate) fn ordinary_run(
     base: Frame,
     areas: [Area; 8],
     declared: u64,
-    at: usize,
-    len: usize,
+    at: Place,
+    end: Place,
 ) -> Run
-    requires { ⌜ at < len ⌝ }
-    ensures { λ r. ⌜ OrdinaryRun base areas declared at len (r .from) (r .end) ⌝ }
+    requires { ⌜ at .0 < end .0 ⌝ }
+    ensures { λ r. ⌜ OrdinaryRun base areas declared (at .0) (end .0) (r .from .0) (r .end .0) ⌝ }
 {
-    let mut i = at;
-    while i < len {
-        let next = past_area(base, areas, declared, i, len);
-        if next == i {
-            let end = next_area(base, areas, declared, i, len);
-            return Run { from: i, end };
+    let last = end.0;
+    let mut i = at.0;
+    while i < last {
+        let next = past_area(base, areas, declared, Place(i), end);
+        if next.0 == i {
+            let stop = next_area(base, areas, declared, next, end);
+            return Run {
+                from: next,
+                end: stop,
+            };
         }
-        i = next;
+        i = next.0;
     }
-    Run {
-        from: len,
-        end: len,
-    }
+    Run { from: end, end }
 }
 
 // The first bitmap word of area i.

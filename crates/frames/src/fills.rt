@@ -3,8 +3,9 @@ ghost use Prim.Native.Nat.{_+_, min};
 ghost use mathlib.Core.Path.{_≡_};
 ghost use lib.ListN.{length};
 ghost use Rattle.frames.specs.Tables.{fill};
+use crate::Place;
 
-// The end of a range of `count` places from `from` on, or the table's length where the range passes it.
+// The end of a range of `count` indices of a table from `from` on, or the table's length where the range passes it.
 pub(crate) fn range_end(from: usize, count: u64, len: usize) -> usize
     ensures { λ r. ⌜ r ≡ min (from + count) len ⌝ }
 {
@@ -17,26 +18,40 @@ pub(crate) fn range_end(from: usize, count: u64, len: usize) -> usize
     from + count as usize
 }
 
-// The `count` marks from `from` on become `value`.
-pub fn fill_marks(marks: &mut [u32], from: usize, count: u64, value: u32)
-    ensures { λ r. ⌜ now (marks .exit) ≡ fill (now (marks .entry)) from count value ⌝ }
+// The `count` marks from place `from` on become `value`.
+pub fn fill_marks(marks: &mut [u32], from: Place, count: u64, value: u32)
+    ensures { λ r. ⌜ now (marks .exit) ≡ fill (now (marks .entry)) (from .0) count value ⌝ }
 {
-    let end = range_end(from, count, marks.len());
-    let mut i = from;
+    let end = range_end(from.0, count, marks.len());
+    let mut i = from.0;
     while i < end {
         marks[i] = value;
         i += 1;
     }
 }
 
-// The `count` words from `from` on become `value`.
-pub fn fill_words(words: &mut [u64], from: usize, count: u64, value: u64)
-    ensures { λ r. ⌜ now (words .exit) ≡ fill (now (words .entry)) from count value ⌝ }
+// The `count` content words from place `from` on become `value`.
+pub fn fill_words(words: &mut [u64], from: Place, count: u64, value: u64)
+    ensures { λ r. ⌜ now (words .exit) ≡ fill (now (words .entry)) (from .0) count value ⌝ }
 {
-    let end = range_end(from, count, words.len());
+    fill_from(words, from.0, count, value);
+}
+
+// The `count` bitmap words from word `from` on become `value`.
+pub fn fill_bitmap(bitmap: &mut [u64], from: usize, count: u64, value: u64)
+    ensures { λ r. ⌜ now (bitmap .exit) ≡ fill (now (bitmap .entry)) from count value ⌝ }
+{
+    fill_from(bitmap, from, count, value);
+}
+
+// The `count` numbers of a table from index `from` on become `value`: content words by place, and bitmap words.
+fn fill_from(table: &mut [u64], from: usize, count: u64, value: u64)
+    ensures { λ r. ⌜ now (table .exit) ≡ fill (now (table .entry)) from count value ⌝ }
+{
+    let end = range_end(from, count, table.len());
     let mut i = from;
     while i < end {
-        words[i] = value;
+        table[i] = value;
         i += 1;
     }
 }

@@ -2,9 +2,10 @@
 mod areas;
 mod fills;
 mod marks;
+mod units;
 
 pub use areas::first_word;
-pub use areas::is_ordinary;
+pub use fills::fill_bitmap;
 pub use fills::fill_marks;
 pub use fills::fill_words;
 pub use marks::are_later;
@@ -14,6 +15,7 @@ pub use marks::find_free;
 pub use marks::find_free_ordinary;
 pub use marks::find_page;
 pub use marks::has_free_ordinary;
+pub use units::place_of;
 
 // A physical frame number.
 pub struct Frame(pub u64);

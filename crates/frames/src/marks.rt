@@ -30,59 +30,63 @@ fn is_page(mark: u32, name: u32) -> bool
 }
 
 // The same as `page_in`, place by place.
-fn page_one_by_one(marks: &[u32], name: u32, from: usize, end: usize) -> usize
-    requires { ⌜ (from ≤ end) × (end ≤ length (now marks)) ⌝ }
-    ensures { λ r. ⌜ r ≡ lowestFrom (marked (isPageOf name) (now (marks .entry))) from (end - from) ⌝ }
+fn page_one_by_one(marks: &[u32], name: u32, from: Place, end: Place) -> Place
+    requires { ⌜ (from .0 ≤ end .0) × (end .0 ≤ length (now marks)) ⌝ }
+    ensures { λ r. ⌜ r .0 ≡ lowestFrom (marked (isPageOf name) (now (marks .entry))) (from .0) (end .0 - from .0) ⌝ }
 {
-    let mut i = from;
-    while i < end {
+    let last = end.0;
+    let mut i = from.0;
+    while i < last {
         if is_page(marks[i], name) {
-            return i;
+            return Place(i);
         }
         i += 1;
     }
-    i
+    Place(i)
 }
 
 // Some mark of the block has that field.
-fn block_has_field(marks: &[u32], field: u32, from: usize) -> bool
-    requires { ⌜ from + 32 ≤ length (now marks) ⌝ }
-    ensures { λ r. ⌜ r ≡ some (marked (hasField field) (now (marks .entry))) from 32 ⌝ }
+fn block_has_field(marks: &[u32], field: u32, from: Place) -> bool
+    requires { ⌜ from .0 + 32 ≤ length (now marks) ⌝ }
+    ensures { λ r. ⌜ r ≡ some (marked (hasField field) (now (marks .entry))) (from .0) 32 ⌝ }
 {
+    let first = from.0;
     let mut hit = false;
     let mut j = 0;
     while j < 32 {
-        hit = hit | (marks[from + j] / 8 == field);
+        hit = hit | (marks[first + j] / 8 == field);
         j += 1;
     }
     hit
 }
 
 // The same as `page_in`, in one block.
-fn page_in_block(marks: &[u32], name: u32, from: usize) -> usize
-    requires { ⌜ from + 32 ≤ length (now marks) ⌝ }
-    ensures { λ r. ⌜ r ≡ lowestFrom (marked (isPageOf name) (now (marks .entry))) from ((from + 32) - from) ⌝ }
+fn page_in_block(marks: &[u32], name: u32, from: Place) -> Place
+    requires { ⌜ from .0 + 32 ≤ length (now marks) ⌝ }
+    ensures { λ r. ⌜ r .0 ≡ lowestFrom (marked (isPageOf name) (now (marks .entry))) (from .0) ((from .0 + 32) - from .0) ⌝ }
 {
+    let end = Place(from.0 + 32);
     if block_has_field(marks, name, from) {
-        return page_one_by_one(marks, name, from, from + 32);
+        return page_one_by_one(marks, name, from, end);
     }
-    from + 32
+    end
 }
 
 // The lowest place of a range whose mark is a page of that name; the range's end where there is none.
-fn page_in(marks: &[u32], name: u32, from: usize, end: usize) -> usize
-    requires { ⌜ (from ≤ end) × (end ≤ length (now marks)) ⌝ }
-    ensures { λ r. ⌜ r ≡ lowestFrom (marked (isPageOf name) (now (marks .entry))) from (end - from) ⌝ }
+fn page_in(marks: &[u32], name: u32, from: Place, end: Place) -> Place
+    requires { ⌜ (from .0 ≤ end .0) × (end .0 ≤ length (now marks)) ⌝ }
+    ensures { λ r. ⌜ r .0 ≡ lowestFrom (marked (isPageOf name) (now (marks .entry))) (from .0) (end .0 - from .0) ⌝ }
 {
-    let mut i = from;
-    while 32 <= end - i {
-        let at = page_in_block(marks, name, i);
-        if at < i + 32 {
+    let last = end.0;
+    let mut i = from.0;
+    while 32 <= last - i {
+        let at = page_in_block(marks, name, Place(i));
+        if at.0 < i + 32 {
             return at;
         }
         i += 32;
     }
-    page_one_by_one(marks, name, i, end)
+    page_one_by_one(marks, name, Place(i), end)
 }
 
 // The lowest place whose mark is a page of that name; the place after the last where there is none.
@@ -93,63 +97,67 @@ pub fn find_page(marks: &[u32], name: u64) -> Place
     if 0x1fff_ffff < name {
         return Place(len);
     }
-    Place(page_in(marks, name as u32, 0, len))
+    page_in(marks, name as u32, Place(0), Place(len))
 }
 
 // The same as `free_in`, place by place.
-fn free_one_by_one(marks: &[u32], from: usize, end: usize) -> usize
-    requires { ⌜ (from ≤ end) × (end ≤ length (now marks)) ⌝ }
-    ensures { λ r. ⌜ r ≡ lowestFrom (marked (hasKind free) (now (marks .entry))) from (end - from) ⌝ }
+fn free_one_by_one(marks: &[u32], from: Place, end: Place) -> Place
+    requires { ⌜ (from .0 ≤ end .0) × (end .0 ≤ length (now marks)) ⌝ }
+    ensures { λ r. ⌜ r .0 ≡ lowestFrom (marked (hasKind free) (now (marks .entry))) (from .0) (end .0 - from .0) ⌝ }
 {
-    let mut i = from;
-    while i < end {
+    let last = end.0;
+    let mut i = from.0;
+    while i < last {
         if marks[i] % 8 == 0 {
-            return i;
+            return Place(i);
         }
         i += 1;
     }
-    i
+    Place(i)
 }
 
 // Some mark of the block is free.
-fn block_has_free(marks: &[u32], from: usize) -> bool
-    requires { ⌜ from + 32 ≤ length (now marks) ⌝ }
-    ensures { λ r. ⌜ r ≡ some (marked (hasKind free) (now (marks .entry))) from 32 ⌝ }
+fn block_has_free(marks: &[u32], from: Place) -> bool
+    requires { ⌜ from .0 + 32 ≤ length (now marks) ⌝ }
+    ensures { λ r. ⌜ r ≡ some (marked (hasKind free) (now (marks .entry))) (from .0) 32 ⌝ }
 {
+    let first = from.0;
     let mut hit = false;
     let mut j = 0;
     while j < 32 {
-        hit = hit | (marks[from + j] % 8 == 0);
+        hit = hit | (marks[first + j] % 8 == 0);
         j += 1;
     }
     hit
 }
 
 // The same as `free_in`, in one block.
-fn free_in_block(marks: &[u32], from: usize) -> usize
-    requires { ⌜ from + 32 ≤ length (now marks) ⌝ }
-    ensures { λ r. ⌜ r ≡ lowestFrom (marked (hasKind free) (now (marks .entry))) from ((from + 32) - from) ⌝ }
+fn free_in_block(marks: &[u32], from: Place) -> Place
+    requires { ⌜ from .0 + 32 ≤ length (now marks) ⌝ }
+    ensures { λ r. ⌜ r .0 ≡ lowestFrom (marked (hasKind free) (now (marks .entry))) (from .0) ((from .0 + 32) - from .0) ⌝ }
 {
+    let end = Place(from.0 + 32);
     if block_has_free(marks, from) {
-        return free_one_by_one(marks, from, from + 32);
+        return free_one_by_one(marks, from, end);
     }
-    from + 32
+    end
 }
 
 // The lowest free place of a range; the range's end where there is none.
-fn free_in(marks: &[u32], from: usize, end: usize) -> usize
-    requires { ⌜ (from ≤ end) × (end ≤ length (now marks)) ⌝ }
-    ensures { λ r. ⌜ r ≡ lowestFrom (marked (hasKind free) (now (marks .entry))) from (end - from) ⌝ }
+fn free_in(marks: &[u32], from: Place, end: Place) -> Place
+    requires { ⌜ (from .0 ≤ end .0) × (end .0 ≤ length (now marks)) ⌝ }
+    ensures { λ r. ⌜ r .0 ≡ lowestFrom (marked (hasKind free) (now (marks .entry))) (from .0) (end .0 - from .0) ⌝ }
 {
-    let mut i = from;
-    while 32 <= end - i {
-        let at = free_in_block(marks, i);
-        if at < i + 32 {
+    let last = end.0;
+    let mut i = from.0;
+    while 32 <= last - i {
+        let at = free_in_block(marks, Place(i));
+        if at.0 < i + 32 {
             return at;
         }
         i += 32;
     }
-    free_one_by_one(marks, i, end)
+    free_one_by_one(marks, Place(i), end)
 }
 
 // The lowest free place at all.
@@ -157,15 +165,15 @@ pub fn find_free(marks: &[u32]) -> Place
     ensures { λ r. ⌜ r ≡ place (lowest (marked (hasKind free) (now (marks .entry))) (length (now (marks .entry)))) ⌝ }
 {
     let len = marks.len();
-    Place(free_in(marks, 0, len))
+    free_in(marks, Place(0), Place(len))
 }
 
 // Each of the `count` places from `from` on is free or movable.
-pub fn can_leave(marks: &[u32], from: usize, count: u64) -> bool
-    ensures { λ r. ⌜ r ≡ every (marked canLeave (now (marks .entry))) from count ⌝ }
+pub fn can_leave(marks: &[u32], from: Place, count: u64) -> bool
+    ensures { λ r. ⌜ r ≡ every (marked canLeave (now (marks .entry))) (from .0) count ⌝ }
 {
-    let end = range_end(from, count, marks.len());
-    let mut i = from;
+    let end = range_end(from.0, count, marks.len());
+    let mut i = from.0;
     while i < end {
         if 1 < marks[i] % 8 {
             return false;
@@ -176,21 +184,22 @@ pub fn can_leave(marks: &[u32], from: usize, count: u64) -> bool
 }
 
 // Each of the `count` places from `from` on is a later frame of a grant.
-pub fn are_later(marks: &[u32], from: usize, count: u64) -> bool
-    ensures { λ r. ⌜ r ≡ every (marked (hasKind later) (now (marks .entry))) from count ⌝ }
+pub fn are_later(marks: &[u32], from: Place, count: u64) -> bool
+    ensures { λ r. ⌜ r ≡ every (marked (hasKind later) (now (marks .entry))) (from .0) count ⌝ }
 {
     if count == 0 {
         return true;
     }
     let len = marks.len();
-    if len <= from {
+    let first = from.0;
+    if len <= first {
         return false;
     }
-    if ((len - from) as u64) < count {
+    if ((len - first) as u64) < count {
         return false;
     }
-    let end = from + count as usize;
-    let mut i = from;
+    let end = first + count as usize;
+    let mut i = first;
     while i < end {
         if marks[i] % 8 != 5 {
             return false;
@@ -201,12 +210,12 @@ pub fn are_later(marks: &[u32], from: usize, count: u64) -> bool
 }
 
 // How many of the `count` places from `from` on are movable.
-pub fn count_movable(marks: &[u32], from: usize, count: u64) -> u64
-    ensures { λ r. ⌜ r ≡ howMany (marked (hasKind movable) (now (marks .entry))) from count ⌝ }
+pub fn count_movable(marks: &[u32], from: Place, count: u64) -> u64
+    ensures { λ r. ⌜ r ≡ howMany (marked (hasKind movable) (now (marks .entry))) (from .0) count ⌝ }
 {
-    let end = range_end(from, count, marks.len());
+    let end = range_end(from.0, count, marks.len());
     let mut found = 0;
-    let mut i = from;
+    let mut i = from.0;
     while i < end {
         found += is_movable(marks[i]);
         i += 1;
@@ -230,32 +239,32 @@ pub fn find_free_ordinary(
     base: Frame,
     areas: [Area; 8],
     declared: u64,
-    from: usize,
+    from: Place,
 ) -> Place
-    ensures { λ r. ⌜ r ≡ place (lowestFrom (isFreeOrdinary (now (marks .entry)) base areas declared) from (length (now (marks .entry)) - from)) ⌝ }
+    ensures { λ r. ⌜ r ≡ place (lowestFrom (isFreeOrdinary (now (marks .entry)) base areas declared) (from .0) (length (now (marks .entry)) - from .0)) ⌝ }
 {
     let len = marks.len();
-    let mut i = from;
+    let mut i = from.0;
     while i < len {
-        let run = ordinary_run(base, areas, declared, i, len);
-        let end = run.end;
-        let at = free_in(marks, run.from, end);
-        if at < end {
-            return Place(at);
+        let run = ordinary_run(base, areas, declared, Place(i), Place(len));
+        let at = free_in(marks, run.from, run.end);
+        if at.0 < run.end.0 {
+            return at;
         }
-        i = end;
+        i = run.end.0;
     }
     Place(i)
 }
 
 // What is left of `least` after the free places of a range are taken off.
-fn less_free(marks: &[u32], from: usize, end: usize, least: u64) -> u64
-    requires { ⌜ (from ≤ end) × (end ≤ length (now marks)) ⌝ }
-    ensures { λ r. ⌜ r ≡ least - howMany (marked (hasKind free) (now (marks .entry))) from (end - from) ⌝ }
+fn less_free(marks: &[u32], from: Place, end: Place, least: u64) -> u64
+    requires { ⌜ (from .0 ≤ end .0) × (end .0 ≤ length (now marks)) ⌝ }
+    ensures { λ r. ⌜ r ≡ least - howMany (marked (hasKind free) (now (marks .entry))) (from .0) (end .0 - from .0) ⌝ }
 {
     let mut left = least;
-    let mut i = from;
-    while i < end {
+    let last = end.0;
+    let mut i = from.0;
+    while i < last {
         if left == 0 {
             return 0;
         }
@@ -292,10 +301,9 @@ pub fn has_free_ordinary(
         if left == 0 {
             return true;
         }
-        let run = ordinary_run(base, areas, declared, i, len);
-        let end = run.end;
-        left = less_free(marks, run.from, end, left);
-        i = end;
+        let run = ordinary_run(base, areas, declared, Place(i), Place(len));
+        left = less_free(marks, run.from, run.end, left);
+        i = run.end.0;
     }
     left == 0
 }

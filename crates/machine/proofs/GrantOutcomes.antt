@@ -13,7 +13,7 @@ use mathlib.Core.List.{List, [], _∷_}
 use lib.Dec.{leb, ltb, eqb}
 use lib.ListN.{length, set}
 use lib.Pow.{pow-pos}
-use borrow.Author.Tests.{leb-true, leb-false, ltb-false, eqb-false, le-leb, lt-leb, lt-ltb, le-ltb}
+use borrow.Author.Tests.{eqb-true, leb-true, leb-false, ltb-false, eqb-false, le-leb, lt-leb, lt-ltb, le-ltb}
 use Rattle.search.specs.Search.{lowest, every, howMany}
 use Rattle.search.proofs.Bools.{below-or-not, or-left, or-right, not-flips, and-left, and-right}
 use Rattle.search.proofs.Lowest.{found-passes}
@@ -40,7 +40,7 @@ use Rattle.machine.specs.DeviceSteps.{isAligned, grantableAt, Searchable
 use Rattle.rules.proofs.Checks.{checked-first, checked-stop, checked-pass, checked-end}
 use Rattle.machine.proofs.RefusalFacts.{Sound, none, some, refused-first, passed-by}
 use Rattle.rules.proofs.Shapes.{Shape, shape-known}
-use Rattle.machine.proofs.AreaShapes.{Right, area-right}
+use Rattle.rules.proofs.AreaRight.{AreaFacts, area-known}
 use Rattle.machine.proofs.Alignment.{lower-multiple}
 use Rattle.machine.proofs.Moves.{out-bitmap}
 
@@ -109,7 +109,7 @@ module _ (m : Machine) (i count order : ℕ) (t : Tables) where
     pub wrong : not (shapeRight m t) ≡ false
     pub bad : (noArea m i || eqb count 0 || ltb mostAlignment order) ≡ false
     pub shape : Shape m t
-    pub right : Right m (areaAt m i)
+    pub right : AreaFacts m (areaAt m i)
     pub declared : i < m .declared
     pub eight : i < 8
     pub searchable : Searchable (m .base) (areaAt m i) count order
@@ -123,7 +123,7 @@ module _ (m : Machine) (i count order : ℕ) (t : Tables) where
       let xy = or-left (x || y) z b in
       let declared : i < m .declared = leb-false (m .declared) i (or-left x y xy) in
       let positive : 0 < count = below-or-not 0 count (λ h. h) (λ h. absurd (eqb-false count 0 (or-right x y xy) (omega arith))) in
-      let r = area-right m t k i declared in
+      let r = area-known m t k i declared in
       record {
         wrong = s;
         bad = b;
@@ -135,11 +135,11 @@ module _ (m : Machine) (i count order : ℕ) (t : Tables) where
             record {
               positive = positive;
               order-high = ltb-false mostAlignment order (or-right (x || y) z b);
-              bit-high = omega (arith, r .order-high, k .memory .order-high);
-              begins = lower-multiple (areaAt m i .base .0) (areaAt m i .order) (m .order) (r .order-high) (r .base-multiple);
-              first-low = r .first-low;
-              end-high = omega (arith, r .end-high, k .memory .end-high);
-              count-high = omega (arith, r .end-high, r .first-low, k .memory .frames-high);
+              bit-high = omega (arith, r .order, k .memory .order-high);
+              begins = lower-multiple (areaAt m i .base .0) (areaAt m i .order) (m .order) (r .order) (eqb-true _ 0 (r .first));
+              first-low = r .low;
+              end-high = omega (arith, r .high, k .memory .end-high);
+              count-high = omega (arith, r .high, r .low, k .memory .frames-high);
             };
       }
 
@@ -205,10 +205,10 @@ module _ (m : Machine) (i count order : ℕ) (t : Tables) where
         record {
           eight = q .eight;
           bit-high = q .searchable .bit-high;
-          first-low = q .right .first-low;
+          first-low = q .right .low;
           declared = q .declared;
           in-area = omega (arith, pow-pos (a .order));
-          end-high = omega (arith, q .right .end-high, pow-pos (a .order));
+          end-high = omega (arith, q .right .high, pow-pos (a .order));
           positive = q .searchable .positive;
           marks-length = q .shape .marks-length;
           words-length = q .shape .words-length;

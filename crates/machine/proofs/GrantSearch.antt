@@ -21,6 +21,7 @@ use Rattle.frames.specs.Units.{bit}
 use Rattle.frames.specs.Marks.{canLeave}
 use Rattle.frames.specs.Areas.{ceiling, perBit, bitCount, bitsFor, frameOfBit}
 use Rattle.frames.specs.Scans.{marked}
+use Rattle.rules.proofs.Divisions.{ceiling-some}
 use Rattle.machine.specs.DeviceSteps.{isAligned, FirstAligned, grantableAt}
 use Rattle.machine.proofs.Alignment.{Steps, aligned-next, aligned-between}
 
@@ -37,12 +38,6 @@ last-two a l c v e f = rw (e, f)
 
 pub second-left : (c v : Bool) → c ≡ true → v ≡ (c && v)
 second-left c v e = rw e
-
--- some frames take some bits
-ceiling-pos : (x d : ℕ) → 0 < x → 0 < d → 0 < ceiling x d
-ceiling-pos x d hx hd =
-    below-or-not 0 (ceiling x d) (λ h. h)
-    (λ h. absurd (let l : x + (d - 1) < 1 * d = div-lt-iff-lt-mul hd .0 (omega arith) in omega (arith, one-mul d)))
 
 -- the frames of a bit are numbers of the machine
 pub bit-fits : (a : Area) (j : ℕ) → a .order ≤ 10 → a .base .0 ≤ 68719476736 → j ≤ 65536 → a .base .0 + j * 2 ^ a .order < 18446744073709551616
@@ -92,7 +87,7 @@ module _ (marks bitmap : List ℕ) (base : Frame) (a : Area) (start count order 
 
     pub look-hit : (j : ℕ) → 0 < count → Looking j → j + n ≤ all → free j ≡ true → bit j ≡ found
     look-hit j c l h f =
-        let p : 0 < bits = ceiling-pos count (perBit a) c (pow-pos (a .order)) in
+        let p : 0 < bits = ceiling-some count (perBit a) (pow-pos (a .order)) c in
         ap bit (sym (found-is test all j (omega arith) (here-is j (l .aligned) (omega arith) ∙ sym (free-is j) ∙ f) (l .none)))
 
     pub look-turn : (s j : ℕ) → Steps a order s → Looking j → j + n ≤ all → free j ≡ false → Looking (j + s)

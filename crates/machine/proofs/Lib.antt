@@ -1,5 +1,4 @@
 pub mod Alignment
-pub mod AreaShapes
 pub mod DeclareOutcomes
 pub mod DeviceOutcomes
 pub mod GrantOutcomes

@@ -31,11 +31,7 @@ use Rattle.rules.specs.PageCalls.{badName, pageAt, isPlace, isLive, liveChecks}
 use Rattle.machine.specs.Look.{lookUp}
 use Rattle.rules.proofs.Checks.{checked-stop, checked-pass}
 use Rattle.rules.proofs.Shapes.{Shape, shape-known}
-
--- a page of that name has it as its mark's field
-pub page-field : (name mark : ℕ) → isPageOf name mark ≡ true → fieldOf mark ≡ name
-page-field name mark e =
-    eqb-true (fieldOf mark) name (and-right (hasKind movable mark || hasKind pinned mark || hasKind fixed mark) (eqb (fieldOf mark) name) e)
+use Rattle.rules.proofs.ledger.Marks.{page-field}
 
 module _ (m : Machine) (name : ℕ) (t : Tables) where
   abbrev scanned : Place

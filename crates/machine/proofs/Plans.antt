@@ -150,10 +150,9 @@ module _ (m : Machine) (r : Request) (t : Tables) where
           }
 
       -- it goes down
-      search-falls : (q : ℕ) → q < base - m .base .0 + S / pageBytes → (m .base .0 + q) * pageBytes < high
-      search-falls q up =
+      search-falls : (taken : ℕ) → taken < base + S / pageBytes → taken * pageBytes < high
+      search-falls taken up =
           let ends = k .ends in
-          let inside = k .in-memory in
           let size = amounts .size-pages in
           omega arith
 
@@ -217,23 +216,25 @@ module _ (m : Machine) (r : Request) (marks : List ℕ) (amounts : Amounts m r) 
   abbrev t : Tables
   t = tables marks [] []
 
-  -- the lowest place of a range that is not free or is in an area, as the scan gives it
+  -- the lowest frame of a range that is not free or is in an area, as the scan gives it
+  abbrev firstTaken : ℕ → ℕ → ℕ
+  firstTaken base count = lowestFrom (λ q. not (freeAt m marks q)) (base - m .base .0) count
+
   abbrev Taken : ℕ → ℕ → ℕ → Type 0
-  Taken from count taken = taken ≡ lowestFrom (λ q. not (freeAt m marks q)) from ((from + count) - from)
+  Taken base count taken = taken ≡ m .base .0 + firstTaken base count
 
   abbrev next : Rounded → ℕ → ℕ
   next x high = (high - x .size) / x .alignment * x .alignment / pageBytes
 
-  pub trying : (high lowest : ℕ) → lowest ≡ roundUp (max (R .base) (startByte m)) (R .alignment) + R .size → lowest ≤ high → Tried m r t high (next R high)
-  trying high =
-      subst
-      (λ (x : Rounded). (lowest : ℕ) → lowest ≡ roundUp (max (x .base) (startByte m)) (x .alignment) + x .size → lowest ≤ high → Tried m r t high (next x high))
-      (sym e) (λ lowest l h. tried m r t amounts high (omega (arith, l)))
+  pub trying :
+      (high lowest base : ℕ) →
+      lowest ≡ roundUp (max (R .base) (startByte m)) (R .alignment) + R .size → lowest ≤ high → base ≡ next R high → Tried m r t high base
+  trying high lowest base l h is =
+      subst (Tried m r t high) (sym is)
+      (subst (λ (x : Rounded). lowest ≡ roundUp (max (x .base) (startByte m)) (x .alignment) + x .size → Tried m r t high (next x high)) (sym e)
+      (λ l. tried m r t amounts high (omega (arith, l))) l)
 
   module _ (high base : ℕ) (s : Searching m r t high) (k : Tried m r t high base) where
-    abbrev from : ℕ
-    from = base - m .base .0
-
     pub tried-inside : base + R .size / pageBytes ≤ endFrame m
     tried-inside =
         let size : R .size ≡ sizeFor m r = ap (λ (x : Rounded). x .size) e in
@@ -241,28 +242,33 @@ module _ (m : Machine) (r : Request) (marks : List ℕ) (amounts : Amounts m r) 
 
     pub tried-made :
         (taken : ℕ) →
-        Taken from (R .size / pageBytes) taken →
-        from + R .size / pageBytes ≤ taken → Made (record { base = frame base; count = R .size / pageBytes; order = r .order }) ≡ planHighest m r t
+        Taken base (R .size / pageBytes) taken →
+        base + R .size / pageBytes ≤ taken → Made (record { base = frame base; count = R .size / pageBytes; order = r .order }) ≡ planHighest m r t
     tried-made taken =
         subst
         (λ (x : Rounded).
-        Taken from (x .size / pageBytes) taken →
-        from + x .size / pageBytes ≤ taken → Made (record { base = frame base; count = x .size / pageBytes; order = r .order }) ≡ planHighest m r t)
+        Taken base (x .size / pageBytes) taken →
+        base + x .size / pageBytes ≤ taken → Made (record { base = frame base; count = x .size / pageBytes; order = r .order }) ≡ planHighest m r t)
         (sym e)
-        (λ is h. sym (highest-made m r t amounts high base s k (vacant-is m marks _ ∙ taken-none (freeAt m marks) from (sizeFor m r / pageBytes) taken is h)))
+        (λ is h.
+        let d = sizeFor m r / pageBytes in
+        sym (highest-made m r t amounts high base s k (vacant-is m marks _ ∙ taken-none (freeAt m marks) (base - m .base .0) d (firstTaken base d) refl (omega (arith, is)))))
 
-    pub tried-on : (taken : ℕ) → Taken from (R .size / pageBytes) taken → taken < from + R .size / pageBytes → Searching m r t ((m .base .0 + taken) * pageBytes)
+    pub tried-on : (taken : ℕ) → Taken base (R .size / pageBytes) taken → taken < base + R .size / pageBytes → Searching m r t (taken * pageBytes)
     tried-on taken =
-        subst
-        (λ (x : Rounded). Taken from (x .size / pageBytes) taken → taken < from + x .size / pageBytes → Searching m r t ((m .base .0 + taken) * pageBytes)) (sym e)
+        subst (λ (x : Rounded). Taken base (x .size / pageBytes) taken → taken < base + x .size / pageBytes → Searching m r t (taken * pageBytes)) (sym e)
         (λ is h.
         let p = freeAt m marks in
+        let from = base - m .base .0 in
         let d = sizeFor m r / pageBytes in
-        search-on m r t amounts high base s k taken (taken-low p from d taken is) h (free-is m marks taken ∙ taken-fails p from d taken is h))
+        let q = firstTaken base d in
+        let below : q < from + d = omega (arith, is, k .in-memory) in
+        subst (λ (x : ℕ). Searching m r t (x * pageBytes)) (sym is)
+        (search-on m r t amounts high base s k q (taken-low p from d q refl) below (free-is m marks q ∙ taken-fails p from d q refl below)))
 
-    pub tried-falls : (taken : ℕ) → taken < from + R .size / pageBytes → (m .base .0 + taken) * pageBytes < high
+    pub tried-falls : (taken : ℕ) → taken < base + R .size / pageBytes → taken * pageBytes < high
     tried-falls taken =
-        subst (λ (x : Rounded). taken < from + x .size / pageBytes → (m .base .0 + taken) * pageBytes < high) (sym e) (search-falls m r t amounts high base s k taken)
+        subst (λ (x : Rounded). taken < base + x .size / pageBytes → taken * pageBytes < high) (sym e) (search-falls m r t amounts high base s k taken)
 
   pub tried-all :
       (high lowest : ℕ) →
@@ -276,35 +282,37 @@ module _ (m : Machine) (r : Request) (marks : List ℕ) (amounts : Amounts m r) 
 
   -- a fixed area
   module _ (low : startByte m ≤ R .base) (high : R .base + R .size ≤ endByte m) where
-    abbrev base : ℕ
-    base = R .base / pageBytes - m .base .0
-
-    scanned : (taken : ℕ) → Taken base (R .size / pageBytes) taken → Taken (baseFor m r / pageBytes - m .base .0) (sizeFor m r / pageBytes) taken
-    scanned taken = subst (λ (x : Rounded). Taken base (R .size / pageBytes) taken → Taken (x .base / pageBytes - m .base .0) (x .size / pageBytes) taken) e (λ is. is)
-
     size : R .size ≡ sizeFor m r
     size = ap (λ (x : Rounded). x .size) e
 
     start : R .base ≡ baseFor m r
     start = ap (λ (x : Rounded). x .base) e
 
-    pub fixed-full : (taken : ℕ) → Taken base (R .size / pageBytes) taken → taken < base + R .size / pageBytes → Not 12 ≡ planFixed m r t
-    fixed-full taken is h =
-        sym
-        (fixed-taken m r t (omega (arith, start)) (omega (arith, start, size))
-        (vacant-is m marks _ ∙
-        taken-some (freeAt m marks) (baseFor m r / pageBytes - m .base .0) (sizeFor m r / pageBytes) taken (scanned taken is) (omega (arith, start, size))))
+    -- what the scan found, with the definition's amounts
+    module _ (base : ℕ) (at : base ≡ R .base / pageBytes) (taken : ℕ) (is : Taken base (R .size / pageBytes) taken) where
+      abbrev from : ℕ
+      from = baseFor m r / pageBytes - m .base .0
 
-    pub fixed-there :
-        (taken : ℕ) →
-        Taken base (R .size / pageBytes) taken →
-        base + R .size / pageBytes ≤ taken → Made (record { base = frame (R .base / pageBytes); count = R .size / pageBytes; order = r .order }) ≡ planFixed m r t
-    fixed-there taken is h =
-        ap (λ (x : Rounded). Made (record { base = frame (x .base / pageBytes); count = x .size / pageBytes; order = r .order })) e ∙
-        sym
-        (fixed-made m r t (omega (arith, start)) (omega (arith, start, size))
-        (vacant-is m marks _ ∙
-        taken-none (freeAt m marks) (baseFor m r / pageBytes - m .base .0) (sizeFor m r / pageBytes) taken (scanned taken is) (omega (arith, start, size))))
+      abbrev d : ℕ
+      d = sizeFor m r / pageBytes
+
+      scanned : taken ≡ m .base .0 + lowestFrom (λ q. not (freeAt m marks q)) from d
+      scanned = subst (λ (x : Rounded). Taken (x .base / pageBytes) (x .size / pageBytes) taken) e (subst (λ (b : ℕ). Taken b (R .size / pageBytes) taken) at is)
+
+      pub fixed-full : taken < base + R .size / pageBytes → Not 12 ≡ planFixed m r t
+      fixed-full h =
+          sym
+          (fixed-taken m r t (omega (arith, start)) (omega (arith, start, size))
+          (vacant-is m marks _ ∙ taken-some (freeAt m marks) from d _ refl (omega (arith, scanned, at, start, size))))
+
+      pub fixed-there :
+          base + R .size / pageBytes ≤ taken → Made (record { base = frame base; count = R .size / pageBytes; order = r .order }) ≡ planFixed m r t
+      fixed-there h =
+          ap (λ (b : ℕ). Made (record { base = frame b; count = R .size / pageBytes; order = r .order })) at ∙
+          ap (λ (x : Rounded). Made (record { base = frame (x .base / pageBytes); count = x .size / pageBytes; order = r .order })) e ∙
+          sym
+          (fixed-made m r t (omega (arith, start)) (omega (arith, start, size))
+          (vacant-is m marks _ ∙ taken-none (freeAt m marks) from d _ refl (omega (arith, scanned, at, start, size))))
 
 -- ---- the checks in turn
 module _ (m : Machine) (r : Request) (room : ℕ) (t : Tables) where

@@ -28,7 +28,7 @@ use Rattle.machine.specs.DeviceSteps.{rangeChecks}
 use Rattle.rules.proofs.Checks.{checked-passed}
 use Rattle.machine.proofs.RefusalFacts.{Sound, none, some, refusal-pass, refused-by, passed-by}
 use Rattle.rules.proofs.Shapes.{Shape, shape-known}
-use Rattle.machine.proofs.AreaShapes.{Right, area-right}
+use Rattle.rules.proofs.AreaRight.{area-known}
 
 -- ---- tests in a row
 pub first-holds : (a b : Bool) → a ≡ true → true ≡ (a || b)
@@ -82,13 +82,13 @@ module _ (m : Machine) (i : ℕ) (f : Frame) (count : ℕ) (t : Tables) where
       let uv = or-right (x || y) z b in
       let low : areaAt m i .base .0 ≤ f .0 = ltb-false (f .0) (areaAt m i .base .0) (or-left u v uv) in
       let high : f .0 + count ≤ endOf (areaAt m i) = ltb-false (endOf (areaAt m i)) (f .0 + count) (or-right u v uv) in
-      let r = area-right m t k i declared in
+      let r = area-known m t k i declared in
       record {
         eight = omega (arith, k .declared-high);
-        order = omega (arith, r .order-high, k .memory .order-high);
+        order = omega (arith, r .order, k .memory .order-high);
         in-area = low;
-        low = omega (arith, r .first-low);
-        in-marks = omega (arith, r .first-low, r .end-high, k .marks-length);
+        low = omega (arith, r .low);
+        in-marks = omega (arith, r .low, r .high, k .marks-length);
         positive = positive;
       }
 

@@ -55,9 +55,9 @@ module _ (p q e : ℕ → Bool) (either : (k : ℕ) → e k ≡ (p k || q k)) (i
       sym (lowest-is e i d r (least-either j r (subst (Least p i d) (sym same) (lowest-least p i d)) (lowest-least q i (j - i))))
 
 -- ---- a search for the lowest of d numbers that fails a test, from `from` on
-module _ (p : ℕ → Bool) (from d j : ℕ) (is : j ≡ lowestFrom (λ q. not (p q)) from ((from + d) - from)) where
-  least : Least (λ q. not (p q)) from ((from + d) - from) j
-  least = subst (Least (λ q. not (p q)) from ((from + d) - from)) (sym is) (lowest-least (λ q. not (p q)) from ((from + d) - from))
+module _ (p : ℕ → Bool) (from d j : ℕ) (is : j ≡ lowestFrom (λ q. not (p q)) from d) where
+  least : Least (λ q. not (p q)) from d j
+  least = subst (Least (λ q. not (p q)) from d) (sym is) (lowest-least (λ q. not (p q)) from d)
 
   pub taken-low : from ≤ j
   taken-low = least .low

@@ -10,9 +10,12 @@ use Rattle.machine.specs.declared.Machine.{Machine}
 use Rattle.machine.specs.declared.Request.{Request}
 use Rattle.machine.specs.declared.Returned.{Returned}
 
--- field by field
+-- field by field, and back
 abbrev pub machineOf : Machine → Rules.Machine
 machineOf m = record { base = m .base; frames = m .frames; order = m .order; declared = m .declared; areas = m .areas }
+
+abbrev pub givenOf : Rules.Machine → Machine
+givenOf m = record { base = m .base; frames = m .frames; order = m .order; declared = m .declared; areas = m .areas }
 
 abbrev pub requestFor : Request → Declare.Request
 requestFor r =

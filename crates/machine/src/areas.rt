@@ -14,18 +14,23 @@ ghost use Rattle.frames.specs.Areas.{holdsFrame, wordCount};
 ghost use Rattle.frames.specs.Tables.{tables, fill};
 ghost use Rattle.rules.specs.Limits.{pageBytes};
 ghost use Rattle.rules.specs.Shape.{memoryRight, wordsNeeded};
-ghost use Rattle.rules.specs.Declare.{badRequest, roundUp, alignmentFor, limitFor, withArea, declare};
+ghost use Rattle.rules.specs.Declare.{badRequest, roundUp, alignmentFor, endByte, limitFor, withArea, declare};
 ghost use Rattle.machine.specs.Plan.{roundedFor, planFixed, planHighest, planRounded, plan};
 ghost use Rattle.machine.specs.Given.{machineOf, requestFor, outcomeOf};
 use crate::Machine;
 use crate::Request;
 use crate::Returned;
 use crate::shape::block_of;
+use crate::units::byte_of_frame;
+use crate::units::frame_at;
+use crate::units::frame_of_byte;
 use answer::refusal;
 use frames::Area;
 use frames::Frame;
-use frames::fill_words;
+use frames::Place;
+use frames::fill_bitmap;
 use frames::first_word;
+use frames::place_of;
 use regions::is_alignment;
 
 // What a declaration comes to: the area, or why it is refused.
@@ -43,31 +48,31 @@ pub struct Rounded {
 }
 
 // The lowest place from `from` up to `end` that the area holds, in a table that begins at frame `base`; `end` where it holds none.
-fn first_held(area: Area, base: u64, from: u64, end: u64) -> u64
-    requires { ⌜ (from ≤ end) × (base + end < 2 ^ 64) ⌝ }
-    ensures { λ r. ⌜ r ≡ lowestFrom (λ q. holdsFrame area (frame (base + q))) from (end - from) ⌝ }
+fn first_held(area: Area, base: Frame, from: Place, end: Place) -> Place
+    requires { ⌜ (from .0 ≤ end .0) × (base .0 + end .0 < 2 ^ 64) ⌝ }
+    ensures { λ r. ⌜ r .0 ≡ lowestFrom (λ q. holdsFrame area (frame (base .0 + q))) (from .0) (end .0 - from .0) ⌝ }
 {
-    let first = area.base.0;
-    let count = area.count;
-    if first <= base + from {
-        if base + from - first < count {
+    let first = frame_at(base, from);
+    if area.base.0 <= first.0 {
+        if first.0 - area.base.0 < area.count {
             return from;
         }
         return end;
     }
-    if count == 0 {
+    if area.count == 0 {
         return end;
     }
-    if base + end <= first {
+    let past = frame_at(base, end);
+    if past.0 <= area.base.0 {
         return end;
     }
-    first - base
+    place_of(base, area.base)
 }
 
 // The lowest place of the range that is in an area; `end` where none is.
-fn first_in_areas(base: u64, areas: [Area; 8], declared: u64, from: u64, end: u64) -> u64
-    requires { ⌜ (from ≤ end) × (base + end < 2 ^ 64) × (declared ≤ 8) ⌝ }
-    ensures { λ r. ⌜ r ≡ lowestFrom (inAreasAt (frame base) areas declared) from (end - from) ⌝ }
+fn first_in_areas(base: Frame, areas: [Area; 8], declared: u64, from: Place, end: Place) -> Place
+    requires { ⌜ (from .0 ≤ end .0) × (base .0 + end .0 < 2 ^ 64) × (declared ≤ 8) ⌝ }
+    ensures { λ r. ⌜ r .0 ≡ lowestFrom (inAreasAt base areas declared) (from .0) (end .0 - from .0) ⌝ }
 {
     let last = declared as usize;
     let mut lowest = end;
@@ -81,39 +86,23 @@ fn first_in_areas(base: u64, areas: [Area; 8], declared: u64, from: u64, end: u6
 }
 
 // The lowest place of the range that is not free; `end` where all are.
-fn first_used(marks: &[u32], from: u64, end: u64) -> u64
-    requires { ⌜ from ≤ end ⌝ }
-    ensures { λ r. ⌜ r ≡ lowestFrom (λ q. not (marked (hasKind free) (now (marks .entry)) q)) from (end - from) ⌝ }
+fn first_used(marks: &[u32], from: Place, end: Place) -> Place
+    requires { ⌜ from .0 ≤ end .0 ⌝ }
+    ensures { λ r. ⌜ r .0 ≡ lowestFrom (λ q. not (marked (hasKind free) (now (marks .entry)) q)) (from .0) (end .0 - from .0) ⌝ }
 {
     let len = marks.len();
-    let last = end as usize;
-    let mut i = from as usize;
+    let last = end.0;
+    let mut i = from.0;
     while i < last {
         if len <= i {
             return end;
         }
         if marks[i] % 8 != 0 {
-            return i as u64;
+            return Place(i);
         }
         i += 1;
     }
     end
-}
-
-// The lowest place of the range that is not free or is in an area; `end` where the area could have all of it.
-fn first_taken(
-    marks: &[u32],
-    base: u64,
-    areas: [Area; 8],
-    declared: u64,
-    from: u64,
-    end: u64,
-) -> u64
-    requires { ⌜ (from ≤ end) × (base + end < 2 ^ 64) × (declared ≤ 8) ⌝ }
-    ensures { λ r. ⌜ r ≡ lowestFrom (λ q. not (isFreeOrdinary (now (marks .entry)) (frame base) areas declared q)) from (end - from) ⌝ }
-{
-    let ordinary = first_in_areas(base, areas, declared, from, end);
-    first_used(marks, from, ordinary)
 }
 
 // An amount is above the most bytes, the size is 0, or the alignment is neither 0 nor a power of two.
@@ -158,12 +147,12 @@ fn is_fixed(request: Request, rounded: Rounded) -> bool
 }
 
 // The end of the lowest place that a search tries: at or above the base, and in memory that begins at frame `first`.
-fn lowest_end(rounded: Rounded, first: u64) -> u64
-    requires { ⌜ (0 < rounded .alignment) × (rounded .alignment ≤ 2 ^ 48) × (rounded .base ≤ 2 ^ 49) × (rounded .size ≤ 2 ^ 49) × (first ≤ 2 ^ 36) ⌝ }
-    ensures { λ r. ⌜ r ≡ roundUp (max (rounded .base) (first * pageBytes)) (rounded .alignment) + rounded .size ⌝ }
+fn lowest_end(rounded: Rounded, first: Frame) -> u64
+    requires { ⌜ (0 < rounded .alignment) × (rounded .alignment ≤ 2 ^ 48) × (rounded .base ≤ 2 ^ 49) × (rounded .size ≤ 2 ^ 49) × (first .0 ≤ 2 ^ 36) ⌝ }
+    ensures { λ r. ⌜ r ≡ roundUp (max (rounded .base) (first .0 * pageBytes)) (rounded .alignment) + rounded .size ⌝ }
 {
     let alignment = rounded.alignment;
-    let start = first * Machine::PAGE_BYTES;
+    let start = byte_of_frame(first);
     if rounded.base < start {
         return round_up(start, alignment) + rounded.size;
     }
@@ -185,13 +174,21 @@ impl Machine {
         block
     }
 
+    // The byte after the last of memory.
+    fn end_byte(self) -> u64
+        requires { ⌜ memoryRight (self .base .0) (self .frames) (self .order) ≡ true ⌝ }
+        ensures { λ r. ⌜ r ≡ endByte (machineOf self) ⌝ }
+    {
+        byte_of_frame(Frame(self.base.0 + self.frames))
+    }
+
     // The limit rounded down; the end of memory where that is 0 or past it.
     fn limit_for(self, request: Request) -> u64
         requires { ⌜ memoryRight (self .base .0) (self .frames) (self .order) ≡ true ⌝ }
         ensures { λ r. ⌜ r ≡ limitFor (machineOf self) (requestFor request) ⌝ }
     {
         let alignment = self.alignment_for(request);
-        let end = (self.base.0 + self.frames) * Machine::PAGE_BYTES;
+        let end = self.end_byte();
         let limit = request.limit / alignment * alignment;
         if limit == 0 {
             return end;
@@ -217,6 +214,19 @@ impl Machine {
         }
     }
 
+    // The lowest frame of a range of memory that is not free or is in an area; the frame after the range where there is none.
+    fn first_taken(self, marks: &[u32], first: Frame, count: u64) -> Frame
+        requires { ⌜ (self .base .0 ≤ first .0) × (first .0 + count < 2 ^ 64) × (self .declared ≤ 8) ⌝ }
+        ensures { λ r. ⌜ r .0 ≡ self .base .0 + lowestFrom (λ q. not (isFreeOrdinary (now (marks .entry)) (self .base) (self .areas) (self .declared) q)) (first .0 - self .base .0) count ⌝ }
+    {
+        let areas = self.areas;
+        let from = place_of(self.base, first);
+        let end = place_of(self.base, Frame(first.0 + count));
+        let ordinary = first_in_areas(self.base, areas, self.declared, from, end);
+        let taken = first_used(marks, from, ordinary);
+        frame_at(self.base, taken)
+    }
+
     // An area that must begin at its base: it is in memory and could have all of its frames, or it is refused.
     fn plan_fixed(self, marks: &[u32], request: Request) -> Plan
         requires { ⌜ memoryRight (self .base .0) (self .frames) (self .order) ≡ true ⌝ }
@@ -225,25 +235,23 @@ impl Machine {
         ensures { λ r. ⌜ r ≡ planFixed (machineOf self) (requestFor request) (tables (now (marks .entry)) [] []) ⌝ }
     {
         let rounded = self.round(request);
-        let first = self.base.0;
-        if rounded.base < first * Machine::PAGE_BYTES {
+        if rounded.base < byte_of_frame(self.base) {
             return Plan::Not(refusal::NO_PLACE);
         }
-        if (first + self.frames) * Machine::PAGE_BYTES < rounded.base + rounded.size {
+        if self.end_byte() < rounded.base + rounded.size {
             return Plan::Not(refusal::NO_PLACE);
         }
-        let area = Area {
-            base: Frame(rounded.base / Machine::PAGE_BYTES),
-            count: rounded.size / Machine::PAGE_BYTES,
-            order: request.order,
-        };
-        let from = area.base.0 - first;
-        let end = from + area.count;
-        let areas = self.areas;
-        if first_taken(marks, first, areas, self.declared, from, end) < end {
+        let base = frame_of_byte(rounded.base);
+        let count = rounded.size / Machine::PAGE_BYTES;
+        let taken = self.first_taken(marks, base, count);
+        if taken.0 < base.0 + count {
             return Plan::Not(refusal::RANGE_NOT_FREE);
         }
-        Plan::Made(area)
+        Plan::Made(Area {
+            base,
+            count,
+            order: request.order,
+        })
     }
 
     // The highest place where the area can go. Where a range has a frame that is taken, so has every range over that frame: the next to try
@@ -255,23 +263,21 @@ impl Machine {
         ensures { λ r. ⌜ r ≡ planHighest (machineOf self) (requestFor request) (tables (now (marks .entry)) [] []) ⌝ }
     {
         let rounded = self.round(request);
-        let lowest = lowest_end(rounded, self.base.0);
+        let lowest = lowest_end(rounded, self.base);
+        let count = rounded.size / Machine::PAGE_BYTES;
         let mut high = rounded.limit;
         while lowest <= high {
-            let base = (high - rounded.size) / rounded.alignment * rounded.alignment
-                / Machine::PAGE_BYTES;
-            let count = rounded.size / Machine::PAGE_BYTES;
-            let from = base - self.base.0;
-            let areas = self.areas;
-            let taken = first_taken(marks, self.base.0, areas, self.declared, from, from + count);
-            if from + count <= taken {
+            let start = (high - rounded.size) / rounded.alignment * rounded.alignment;
+            let base = frame_of_byte(start);
+            let taken = self.first_taken(marks, base, count);
+            if base.0 + count <= taken.0 {
                 return Plan::Made(Area {
-                    base: Frame(base),
+                    base,
                     count,
                     order: request.order,
                 });
             }
-            high = (self.base.0 + taken) * Machine::PAGE_BYTES;
+            high = byte_of_frame(taken);
         }
         Plan::Not(refusal::NO_PLACE)
     }
@@ -344,7 +350,7 @@ impl Machine {
     {
         let areas = self.areas;
         let from = first_word(areas, self.declared);
-        fill_words(bitmap, from as usize, area.words(), 0);
+        fill_bitmap(bitmap, from as usize, area.words(), 0);
     }
 
     // A new area, where the request says or at the highest place that it can have. Its bitmap words become 0.

@@ -19,6 +19,8 @@ use answer::Answer;
 use answer::refusal;
 use frames::Area;
 use frames::Frame;
+use frames::Place;
+use frames::fill_bitmap;
 use frames::fill_marks;
 use frames::fill_words;
 use regions::Region;
@@ -47,8 +49,8 @@ fn request_of(region: Region) -> Request
 }
 
 // The numbers keep to their limits, and marks and words have an entry for each frame.
-fn is_bootable(marks: usize, words: usize, base: u64, frames: u64, order: u64) -> bool
-    ensures { λ r. ⌜ r ≡ (memoryRight base frames order && (eqb marks frames && eqb words frames)) ⌝ }
+fn is_bootable(marks: usize, words: usize, base: Frame, frames: u64, order: u64) -> bool
+    ensures { λ r. ⌜ r ≡ (memoryRight (base .0) frames order && (eqb marks frames && eqb words frames)) ⌝ }
 {
     if !memory_right(base, frames, order) {
         return false;
@@ -61,8 +63,8 @@ fn is_bootable(marks: usize, words: usize, base: u64, frames: u64, order: u64) -
 
 impl Machine {
     // A record with no areas.
-    fn bare(base: u64, frames: u64, order: u64) -> Self
-        ensures { λ r. ⌜ machineOf r ≡ bareMachine base frames order ⌝ }
+    fn bare(base: Frame, frames: u64, order: u64) -> Self
+        ensures { λ r. ⌜ machineOf r ≡ bareMachine (base .0) frames order ⌝ }
     {
         let none = Area {
             base: Frame(0),
@@ -70,7 +72,7 @@ impl Machine {
             order: 0,
         };
         Self {
-            base: Frame(base),
+            base,
             frames,
             order,
             declared: 0,
@@ -130,9 +132,9 @@ impl Machine {
     }
 
     // What numbers that are right and a text come to.
-    fn start(marks: &[u32], room: u64, base: u64, frames: u64, order: u64, text: &[u8]) -> Start
-        requires { ⌜ memoryRight base frames order ≡ true ⌝ }
-        ensures { λ r. ⌜ startedBy r ≡ startOf (startRead room (now (marks .entry)) base frames order (now (text .entry))) ⌝ }
+    fn start(marks: &[u32], room: u64, base: Frame, frames: u64, order: u64, text: &[u8]) -> Start
+        requires { ⌜ memoryRight (base .0) frames order ≡ true ⌝ }
+        ensures { λ r. ⌜ startedBy r ≡ startOf (startRead room (now (marks .entry)) (base .0) frames order (now (text .entry))) ⌝ }
     {
         let regions = read_regions(text);
         if regions.refusal != 0 {
@@ -148,12 +150,12 @@ impl Machine {
         marks: &mut [u32],
         words: &mut [u64],
         bitmap: &mut [u64],
-        base: u64,
+        base: Frame,
         frames: u64,
         order: u64,
         text: &[u8],
     ) -> Returned
-        ensures { λ r. ⌜ outcomeOf r (now (marks .exit)) (now (words .exit)) (now (bitmap .exit)) ≡ boot (machineOf self) base frames order (now (text .entry)) (tables (now (marks .entry)) (now (words .entry)) (now (bitmap .entry))) ⌝ }
+        ensures { λ r. ⌜ outcomeOf r (now (marks .exit)) (now (words .exit)) (now (bitmap .exit)) ≡ boot (machineOf self) (base .0) frames order (now (text .entry)) (tables (now (marks .entry)) (now (words .entry)) (now (bitmap .entry))) ⌝ }
     {
         if !is_bootable(marks.len(), words.len(), base, frames, order) {
             return self.refused_at(refusal::WRONG_SHAPE, 0);
@@ -163,9 +165,9 @@ impl Machine {
         if start.refusal != 0 {
             return self.refused_at(start.refusal, start.place);
         }
-        fill_marks(marks, 0, frames, 0);
-        fill_words(words, 0, frames, 0);
-        fill_words(bitmap, 0, room, 0);
+        fill_marks(marks, Place(0), frames, 0);
+        fill_words(words, Place(0), frames, 0);
+        fill_bitmap(bitmap, 0, room, 0);
         let machine = start.machine;
         machine.done(0, 0)
     }

@@ -29,7 +29,6 @@ use crate::kinds::MOVABLE;
 use crate::shape::block_of;
 use crate::units::bit_of_frame;
 use crate::units::frame_of_bit;
-use crate::units::place_of;
 use answer::refusal;
 use bitmap::clear_run;
 use bitmap::run_is_clear;
@@ -46,6 +45,7 @@ use frames::fill_words;
 use frames::find_free_ordinary;
 use frames::first_word;
 use frames::has_free_ordinary;
+use frames::place_of;
 
 // A mark of a grant's first frame or of a later one.
 fn is_granted(mark: u32) -> bool
@@ -93,7 +93,7 @@ fn is_other_grant(marks: &[u32], page: Place, count: u64) -> bool
     if (marks[at] / 8) as u64 != count {
         return true;
     }
-    !are_later(marks, at + 1, count - 1)
+    !are_later(marks, Place(at + 1), count - 1)
 }
 
 // Why a range of an area cannot be released as a grant; or that it can.
@@ -123,16 +123,17 @@ fn bit_step(a: Area, order: u64) -> usize
 
 // The lowest bit whose first frame is a multiple of 2^order, in the area or past it. The area's own first frame is a multiple of its
 // pages per bit, so where it is none of 2^order, the distance up to the next is whole bits.
-fn first_aligned(a: Area, order: u64) -> usize
-    requires { ⌜ (order ≤ 16) × (a .order ≤ 10) × (a .base .0 % 2 ^ a .order ≡ 0) ⌝ }
-    ensures { λ r. ⌜ (r ≤ 65536) × FirstAligned a order r ⌝ }
+fn first_aligned(a: Area, order: u64) -> Bit
+    requires { ⌜ (order ≤ 16) × (a .order ≤ 10) × (a .base .0 % 2 ^ a .order ≡ 0) × (a .base .0 ≤ 2 ^ 36) ⌝ }
+    ensures { λ r. ⌜ (r .0 ≤ 65536) × FirstAligned a order (r .0) ⌝ }
 {
     let block = block_of(order);
     let past = a.base.0 % block;
     if past == 0 {
-        return 0;
+        return Bit(0);
     }
-    ((block - past) >> a.order) as usize
+    let next = Frame(a.base.0 + (block - past));
+    bit_of_frame(a, next)
 }
 
 // The run at a bit is clear, and each of its frames is free or movable.
@@ -153,7 +154,7 @@ fn is_free_run(
         return false;
     }
     let page = place_of(base, frame_of_bit(a, bit));
-    can_leave(marks, page.0, count)
+    can_leave(marks, page, count)
 }
 
 // The lowest bit of an area at which a run can be granted; the bit after the last where there is none. Only the bits whose first frames
@@ -177,7 +178,8 @@ fn find_run(
     }
     let last = all - bits as usize;
     let step = bit_step(a, order);
-    let mut j = first_aligned(a, order);
+    let first = first_aligned(a, order);
+    let mut j = first.0;
     while j <= last {
         if is_free_run(marks, bitmap, base, a, start, bits as usize, count, Bit(j)) {
             return Bit(j);
@@ -193,15 +195,15 @@ fn movers_in(marks: &[u32], base: Frame, a: Area, run: Bit, count: u64) -> u64
     ensures { λ r. ⌜ r ≡ howMany (marked (hasKind movable) (now (marks .entry))) (frameOfBit a run .0 - base .0) count ⌝ }
 {
     let page = place_of(base, frame_of_bit(a, run));
-    count_movable(marks, page.0, count)
+    count_movable(marks, page, count)
 }
 
 // Mark and word at one place, where the tables reach it.
 fn set_page(marks: &mut [u32], words: &mut [u64], page: Place, mark: u32, word: u64)
     ensures { λ _. ⌜ (now (marks .exit) ≡ set (now (marks .entry)) (page .0) mark) × (now (words .exit) ≡ set (now (words .entry)) (page .0) word) ⌝ }
 {
-    fill_marks(marks, page.0, 1, mark);
-    fill_words(words, page.0, 1, word);
+    fill_marks(marks, page, 1, mark);
+    fill_words(words, page, 1, word);
 }
 
 // The marks and words of a run that is granted: the first mark has the count, the others are 5, and the words are 0.
@@ -209,10 +211,10 @@ fn mark_run(marks: &mut [u32], words: &mut [u64], page: Place, count: u64)
     requires { ⌜ (0 < count) × (count ≤ 65536) × (page .0 ≤ 65536) ⌝ }
     ensures { λ _. ⌜ tables (now (marks .exit)) (now (words .exit)) [] ≡ markRun (tables (now (marks .entry)) (now (words .entry)) []) page count ⌝ }
 {
-    let at = page.0;
+    let rest = Place(page.0 + 1);
     set_page(marks, words, page, count as u32 * 8 + HEAD, 0);
-    fill_marks(marks, at + 1, count - 1, LATER);
-    fill_words(words, at + 1, count - 1, 0);
+    fill_marks(marks, rest, count - 1, LATER);
+    fill_words(words, rest, count - 1, 0);
 }
 
 impl Machine {
@@ -341,9 +343,8 @@ impl Machine {
         let i = area as usize;
         let a = self.areas[i];
         let page = place_of(self.base, frame);
-        let at = page.0;
-        fill_marks(marks, at, count, 0);
-        fill_words(words, at, count, 0);
+        fill_marks(marks, page, count, 0);
+        fill_words(words, page, count, 0);
         let start = first_word(self.areas, area) as usize;
         let first = bit_of_frame(a, frame);
         let bits = a.bits_for(count) as usize;
@@ -372,9 +373,9 @@ impl Machine {
 
     // A movable page goes to the lowest free ordinary frame, with its mark and word. No place below `low` is free and ordinary; nor is one
     // below the answer then, so that the next search begins there.
-    fn move_page(self, marks: &mut [u32], words: &mut [u64], page: Place, low: usize) -> usize
-        requires { ⌜ (page .0 < length (now marks)) × (page .0 < length (now words)) × (length (now marks) ≡ self .frames) × (isOrdinary (machineOf self) page ≡ false) × NoneBelow (machineOf self) (now marks) low ⌝ }
-        ensures { λ r. ⌜ (tables (now (marks .exit)) (now (words .exit)) [] ≡ movePage (machineOf self) (tables (now (marks .entry)) (now (words .entry)) []) page) × NoneBelow (machineOf self) (now (marks .exit)) r ⌝ }
+    fn move_page(self, marks: &mut [u32], words: &mut [u64], page: Place, low: Place) -> Place
+        requires { ⌜ (page .0 < length (now marks)) × (page .0 < length (now words)) × (length (now marks) ≡ self .frames) × (isOrdinary (machineOf self) page ≡ false) × NoneBelow (machineOf self) (now marks) (low .0) ⌝ }
+        ensures { λ r. ⌜ (tables (now (marks .exit)) (now (words .exit)) [] ≡ movePage (machineOf self) (tables (now (marks .entry)) (now (words .entry)) []) page) × NoneBelow (machineOf self) (now (marks .exit)) (r .0) ⌝ }
     {
         let at = page.0;
         let mark = marks[at];
@@ -386,7 +387,7 @@ impl Machine {
         let to = find_free_ordinary(marks, self.base, areas, self.declared, low);
         set_page(marks, words, to, mark, word);
         set_page(marks, words, page, 0, 0);
-        to.0
+        to
     }
 
     // The movable pages of a run, which has no ordinary frame, go out, ascending.
@@ -396,7 +397,7 @@ impl Machine {
     {
         let mut at = page.0;
         let end = at + count as usize;
-        let mut low = 0;
+        let mut low = Place(0);
         while at < end {
             low = self.move_page(marks, words, Place(at), low);
             at += 1;

@@ -92,7 +92,7 @@ impl Machine {
     {
         let base = self.base;
         let areas = self.areas;
-        let ordinary = find_free_ordinary(marks, base, areas, self.declared, 0);
+        let ordinary = find_free_ordinary(marks, base, areas, self.declared, Place(0));
         if ordinary.0 < marks.len() {
             return ordinary;
         }

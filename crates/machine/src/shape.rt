@@ -10,13 +10,15 @@ ghost use Rattle.rules.specs.Record.{areaAt};
 ghost use Rattle.machine.specs.Given.{machineOf};
 use crate::Machine;
 use frames::Area;
+use frames::Frame;
 use frames::first_word;
 
 // The first frame, the number of frames and the block order keep to their limits.
-pub fn memory_right(base: u64, frames: u64, order: u64) -> bool
-    ensures { λ r. ⌜ r ≡ memoryRight base frames order ⌝ }
+pub fn memory_right(base: Frame, frames: u64, order: u64) -> bool
+    ensures { λ r. ⌜ r ≡ memoryRight (base .0) frames order ⌝ }
 {
-    if base < Machine::LEAST_BASE {
+    let first = base.0;
+    if first < Machine::LEAST_BASE {
         return false;
     }
     if frames < 1 {
@@ -25,7 +27,7 @@ pub fn memory_right(base: u64, frames: u64, order: u64) -> bool
     if Machine::MOST_FRAMES < frames {
         return false;
     }
-    if Machine::MOST_END - frames < base {
+    if Machine::MOST_END - frames < first {
         return false;
     }
     order <= Machine::MOST_ORDER
@@ -129,7 +131,7 @@ impl Machine {
     {
         let frames = self.frames;
         let declared = self.declared;
-        if !memory_right(self.base.0, frames, self.order) {
+        if !memory_right(self.base, frames, self.order) {
             return false;
         }
         if Machine::MOST_AREAS < declared {

@@ -1,8 +1,11 @@
-// Physical frames, table places and bits: each conversion between two of them stands here, and nowhere are they mixed as bare numbers.
+// Physical frames, table places, bits and bytes of memory: each conversion between two of them stands here, but for `frames::place_of`, and
+// nowhere are they mixed as bare numbers. A loop inside a function counts by plain indices, since they index one table.
 ghost use mathlib.Core.Path.{_≡_};
-ghost use Prim.Native.Nat.{_+_, _-_, _*_, _^_, _≤_, _<_};
+ghost use Prim.Native.Nat.{_+_, _-_, _*_, _/_, _^_, _≤_, _<_};
 ghost use Rattle.frames.specs.Areas.{frameOfBit, bitOfFrame};
 ghost use Rattle.frames.specs.Units.{frame, place};
+ghost use Rattle.rules.specs.Limits.{pageBytes};
+use crate::Machine;
 use crate::shape::block_of;
 use frames::Area;
 use frames::Bit;
@@ -15,14 +18,6 @@ pub fn frame_at(base: Frame, page: Place) -> Frame
     ensures { λ r. ⌜ r ≡ frame (base .0 + page .0) ⌝ }
 {
     Frame(base.0 + page.0 as u64)
-}
-
-// The place of a frame in tables that begin at frame `base`.
-pub fn place_of(base: Frame, frame: Frame) -> Place
-    requires { ⌜ base .0 ≤ frame .0 ⌝ }
-    ensures { λ r. ⌜ r ≡ place (frame .0 - base .0) ⌝ }
-{
-    Place((frame.0 - base.0) as usize)
 }
 
 // The first frame of a bit of an area.
@@ -39,4 +34,19 @@ pub fn bit_of_frame(a: Area, frame: Frame) -> Bit
     ensures { λ r. ⌜ r ≡ bitOfFrame a frame ⌝ }
 {
     Bit(((frame.0 - a.base.0) >> a.order) as usize)
+}
+
+// The frame that a byte of memory is in.
+pub fn frame_of_byte(at: u64) -> Frame
+    ensures { λ r. ⌜ r ≡ frame (at / pageBytes) ⌝ }
+{
+    Frame(at / Machine::PAGE_BYTES)
+}
+
+// The first byte of a frame.
+pub fn byte_of_frame(frame: Frame) -> u64
+    requires { ⌜ frame .0 ≤ 2 ^ 36 ⌝ }
+    ensures { λ r. ⌜ r ≡ frame .0 * pageBytes ⌝ }
+{
+    frame.0 * Machine::PAGE_BYTES
 }

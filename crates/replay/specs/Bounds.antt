@@ -1,20 +1,6 @@
 -- What the program's numbers keep to, so that no place lies outside a buffer and no offset and no step wraps.
-use Prim.Native.Nat.{ℕ, _+_, _*_, _≤_, _^_}
-use mathlib.Core.Path.{_≡_}
-use Rattle.replay.specs.declared.batch.Progress.{Progress}
+use Prim.Native.Nat.{_+_, _*_, _≤_, _^_}
 use Rattle.replay.specs.declared.State.{State}
-
--- after one record of a size, with so much room for text
-pub record Answered (before : Progress) (size room : ℕ) (next : Progress) : Type 0 where
-  pub at : next .at ≡ before .at + size
-  pub step : next .step ≡ before .step + 1
-  pub text : next .text ≤ room
-
--- after records of a part of so many bytes: each has at least a byte
-pub record Ran (bytes room : ℕ) (start p : Progress) : Type 0 where
-  pub inside : p .at ≤ bytes
-  pub steps : p .step + start .at ≤ start .step + p .at
-  pub text : p .text ≤ room
 
 -- a state: its places lie in the block, and no more offsets and steps can follow than its turns allow
 pub record Bounds (s : State) : Type 0 where

@@ -6,15 +6,11 @@ ghost use mathlib.Core.Path.{_≡_};
 ghost use Prim.Native.Nat.{_+_, _≤_, _<_};
 ghost use lib.ListN.{length};
 ghost use Rattle.replay.specs.Bounds.{Bounds, Next};
-
-mod batch;
-mod calls;
-
-use batch::Progress;
-use batch::Stop;
 use libc::STDIN_FILENO;
 use libc::STDOUT_FILENO;
 use machine::Machine;
+use playback::Progress;
+use playback::Stop;
 use records::lines;
 
 // A proved loop has to end, and nothing says that the input does: so the loop has a budget of turns, which no run uses up, and of which each
@@ -212,7 +208,7 @@ fn turn(
         text: 0,
         step: s.step,
     };
-    let stopped = batch::answer_records(&input[0..filled], out, marks, words, bitmap, from);
+    let stopped = playback::answer_records(&input[0..filled], out, marks, words, bitmap, from);
     let p = stopped.progress;
     let why = stopped.why;
     let machine = p.machine;

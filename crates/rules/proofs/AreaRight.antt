@@ -1,5 +1,5 @@
 -- The areas of a record of the right shape. Assumes nothing.
---     AreaFacts      what the shape says of one area; area-facts: of each that is declared
+--     AreaFacts      what the shape says of one area; area-known, area-facts: of each that is declared
 --     in-area        a frame of a declared area is not ordinary
 --     ordinary-free, ordinary-is    the two halves of a free ordinary frame
 use Prim.Native.Nat.{ℕ, _+_, _^_, _≤_, _<_}
@@ -18,7 +18,7 @@ use Rattle.frames.proofs.AreaFacts.{holds-yes, in-area as is-in-areas}
 use Rattle.rules.specs.Record.{Machine, areaAt, frameAt, isOrdinary, endFrame}
 use Rattle.rules.specs.Shape.{areaRight, areaFits, shapeRight}
 use Rattle.rules.specs.PageCalls.{isFree, freeOrdinary}
-use Rattle.rules.proofs.Shapes.{shape-known}
+use Rattle.rules.proofs.Shapes.{Shape, shape-known}
 
 pub record AreaFacts (m : Machine) (a : Area) : Type 0 where
   pub some : 1 ≤ a .count
@@ -75,12 +75,14 @@ module _ (m : Machine) (a : Area) where
         le-leb (endOf a) (endFrame m) (f .high),
       )
 
-pub area-facts : (m : Machine) (t : Tables) → shapeRight m t ≡ true → (i : ℕ) → i < m .declared → AreaFacts m (areaAt m i)
+pub area-known : (m : Machine) (t : Tables) → Shape m t → (i : ℕ) → i < m .declared → AreaFacts m (areaAt m i)
 unfolding areaFits
-area-facts m t e i h =
+area-known m t s i h =
     right-facts m (areaAt m i)
-    (and-left (areaRight m (areaAt m i)) (every (λ k. areDisjoint (areaAt m k) (areaAt m i)) 0 i)
-    (shape-known m t e .areas-fit i h))
+    (and-left (areaRight m (areaAt m i)) (every (λ k. areDisjoint (areaAt m k) (areaAt m i)) 0 i) (s .areas-fit i h))
+
+pub area-facts : (m : Machine) (t : Tables) → shapeRight m t ≡ true → (i : ℕ) → i < m .declared → AreaFacts m (areaAt m i)
+area-facts m t e = area-known m t (shape-known m t e)
 
 pub in-area :
     (m : Machine) (i q : ℕ) →

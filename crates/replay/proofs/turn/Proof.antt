@@ -1,6 +1,7 @@
 -- `replay::turn` meets its contract: what the records of the block leave keeps to the bounds, with a turn less. Assumes nothing.
 use borrow.Author.Needs.{needs}
 use native.Mathlib.Omega.{arith}
+use Rattle.playback.proofs.Ran.{ran}
 use Rattle.replay.proofs.turn.Statement.{statement}
 use Rattle.replay.proofs.turn.Tie as tie
 
@@ -22,7 +23,7 @@ sub-t27 c = omega (arith, c .before .before .before .before .before .before .bef
 after-requires : tie.Need-after-requires
 after-requires c κs =
     let given = c .before .before .before .before .before .before .before .before .before .before .before .before .before .before .before .before .before .before .before .before .before .before .before .before .before .before .pre in
-    let ran = c .before .before .before .before .before .before .before .before .before .before .before .before .before .answer-records .ensures in
+    let went = ran _ _ (c .before .before .before .before .before .before .before .before .before .before .before .before .before .answer-records .ensures) (search needs) (omega arith) in
     let kept = c .before .before .before .before .before .before .before .before .before .before .before .before .before .answer-records .kept in
     (record { inside = omega arith; most = omega arith; steps = omega arith; budget = omega arith }, omega arith, omega arith)
 

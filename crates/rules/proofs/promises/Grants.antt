@@ -1,7 +1,6 @@
 -- Grant keeps demand 2: it answers as the plain quantifiers over all candidates say. Assumes nothing.
 use Prim.Native.Nat.{ℕ, zero, suc, _+_, _-_, _*_, _/_, _%_, _^_, _≤_, _<_}
 use native.Mathlib.Omega.{arith}
-use native.Mathlib.Nat.{div-lt-iff-lt-mul, one-mul}
 use mathlib.Core.Path.{_≡_, refl, sym, ap, ap₂, subst, _∙_}
 use mathlib.Core.Logic.{_⊎_, inl, inr, ⊎-elim, _↔_}
 use mathlib.Core.Bool.{Bool, true, false, not, _&&_, _||_}
@@ -17,7 +16,7 @@ use Rattle.answer.specs.Answers.{done, refused}
 use Rattle.bitmap.specs.Bits.{isClear}
 use Rattle.frames.specs.Units.{place, bit}
 use Rattle.frames.specs.Marks.{kindOf, hasKind, canLeave, free, movable}
-use Rattle.frames.specs.Areas.{ceiling, perBit, isMultiple, bitCount, bitsFor, frameOfBit}
+use Rattle.frames.specs.Areas.{perBit, isMultiple, bitCount, bitsFor, frameOfBit}
 use Rattle.frames.specs.Tables.{Tables, markAt}
 use Rattle.rules.specs.Record.{Machine, areaAt}
 use Rattle.rules.specs.Limits.{mostAlignment}
@@ -25,6 +24,7 @@ use Rattle.rules.specs.Shape.{shapeWrong}
 use Rattle.rules.specs.Outcomes.{Outcome, outcome, refuse, checked, _⇒_, First, here, there, Passed, end, next}
 use Rattle.rules.specs.DeviceCalls.{noArea, bitmapOf, placeOfBit, isCandidate, isGrantable, chosen, movers, targets, takeRun, grantChecks, grant}
 use Rattle.rules.proofs.Checks.{checked-first, checked-passed}
+use Rattle.rules.proofs.Divisions.{ceiling-some}
 use Rattle.rules.specs.promises.Grants as plain
 use Rattle.rules.specs.promises.Grants.{Candidate, Grantable, Asked, moved, GrantAnswers, GrantIsFirstFit}
 
@@ -37,12 +37,6 @@ leaves-known mark e =
 pub leaves-test : (mark : ℕ) → (kindOf mark ≡ free) ⊎ (kindOf mark ≡ movable) → canLeave mark ≡ true
 leaves-test mark s =
     ⊎-elim (λ e. rw (eq-eqb (kindOf mark) free e)) (λ e. rw (eq-eqb (kindOf mark) movable e) (or-true-right (hasKind free mark))) s
-
--- some frames take some bits
-pub ceiling-pos : (x d : ℕ) → 0 < x → 0 < d → 0 < ceiling x d
-ceiling-pos x d hx hd =
-    below-or-not 0 (ceiling x d) (λ h. h)
-    (λ h. absurd (let l : x + (d - 1) < 1 * d = div-lt-iff-lt-mul hd .0 (omega arith) in omega (arith, one-mul d)))
 
 module _ (m : Machine) (t : Tables) (i count order : ℕ) where
   abbrev test : ℕ → Bool
@@ -94,7 +88,7 @@ module _ (m : Machine) (t : Tables) (i count order : ℕ) where
         (λ h. absurd (eqb-false count 0 (or-right (noArea m i) (eqb count 0) (or-left (noArea m i || eqb count 0) (ltb mostAlignment order) (asked .arguments))) (omega arith)))
 
     in-range : (j : ℕ) → Grantable m t i count order j → j < bits
-    in-range j g = omega (arith, g .candidate .inside, ceiling-pos count (perBit (areaAt m i)) count-pos (pow-pos (areaAt m i .order)))
+    in-range j g = omega (arith, g .candidate .inside, ceiling-some count (perBit (areaAt m i)) (pow-pos (areaAt m i .order)) count-pos)
 
     -- the one found is the only first
     first-is : (j : ℕ) → plain.First m t i count order j → first ≡ j

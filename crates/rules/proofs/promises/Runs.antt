@@ -1,5 +1,4 @@
 -- A run of frames in an area: where it lies, and what marking it leaves. Assumes nothing.
---     area-known       an area of a right shape: where it lies
 --     first-word-le    its bitmap words come before the areas' end
 --     in-run-or-not    a place is in a run or not
 --     marked-*         the marks and words after a run is marked
@@ -27,23 +26,7 @@ use Rattle.rules.specs.Shape.{areaRight, areaFits, wordsNeeded}
 use Rattle.rules.specs.DeviceCalls.{bitmapOf, placeOfBit, markRun}
 use Rattle.rules.proofs.Divisions.{le-ceiling}
 use Rattle.rules.proofs.Shapes.{Shape}
-
--- an area lies in memory
-pub record InMemory (m : Machine) (a : Area) : Type 0 where
-  pub low : m .base .0 ≤ a .base .0
-  pub high : endOf a ≤ endFrame m
-
-pub area-known : (m : Machine) (t : Tables) → Shape m t → (i : ℕ) → i < m .declared → InMemory m (areaAt m i)
-unfolding areaFits areaRight
-area-known m t s i h =
-    let a = areaAt m i in
-    let right = and-left (areaRight m a) _ (s .areas-fit i h) in
-    let five : Bool = leb 1 (a .count) && leb (a .order) (m .order) && isMultiple (a .base .0) (2 ^ m .order) && isMultiple (a .count) (2 ^ m .order) && leb (m .base .0) (a .base .0) in
-    let four : Bool = leb 1 (a .count) && leb (a .order) (m .order) && isMultiple (a .base .0) (2 ^ m .order) && isMultiple (a .count) (2 ^ m .order) in
-    record {
-      low = leb-true _ _ (and-right four (leb (m .base .0) (a .base .0)) (and-left five (leb (endOf a) (endFrame m)) right));
-      high = leb-true _ _ (and-right five (leb (endOf a) (endFrame m)) right);
-    }
+use Rattle.rules.proofs.AreaRight.{area-known}
 
 -- the words of area i end where those of a later area begin, or before
 pub first-word-le : (m : Machine) (i d : ℕ) → firstWord (m .areas) i + wordCount (areaAt m i) ≤ firstWord (m .areas) (suc i + d)

@@ -12,7 +12,7 @@ use Rattle.frames.proofs.areas.area_of.Statement.{statement}
 use Rattle.frames.proofs.areas.area_of.Tie as tie
 
 abbrev Inv-loop : tie.InvT-loop
-Inv-loop base declared at areas end k₀ k = Seeking (holderOf areas (frame (base .0 + at))) 0 end k
+Inv-loop base declared at areas end k₀ k = Seeking (holderOf areas (frame (base .0 + at .0))) 0 end k
 
 abbrev μ-loop : tie.MeasureT-loop
 μ-loop base declared at areas end k₀ k = end - k
@@ -35,7 +35,7 @@ holds-requires c κs = search needs
 returns : tie.Need-returns Inv-loop μ-loop
 returns c =
     let at = c .before .before .before .before .before .before .args in
-    let p = holderOf (at .t2) (frame (at .base .0 + at .at)) in
+    let p = holderOf (at .t2) (frame (at .base .0 + at .at .0)) in
     seek-hit (c .before .before .before .before .loop .inv) (omega arith) (sym (c .before .holds .ensures) ∙ c .if1 .taken) ∙
     sym (lowest-start p _) ∙ ap (lowest p) (c .before .before .before .before .before .in-use .ensures)
 
@@ -52,7 +52,7 @@ loop-again c =
 returns-2 : tie.Need-returns-2 Inv-loop μ-loop
 returns-2 c =
     let at = c .before .before .before .args in
-    let p = holderOf (at .t2) (frame (at .base .0 + at .at)) in
+    let p = holderOf (at .t2) (frame (at .base .0 + at .at .0)) in
     seek-end (c .before .loop .inv) (omega arith) ∙
     sym (lowest-start p _) ∙ ap (lowest p) (c .before .before .in-use .ensures)
 

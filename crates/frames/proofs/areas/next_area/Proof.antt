@@ -10,11 +10,11 @@ use Rattle.frames.proofs.areas.next_area.Statement.{statement}
 use Rattle.frames.proofs.areas.next_area.Tie as tie
 
 abbrev Inv-loop : tie.InvT-loop
-Inv-loop base declared at len areas end stop₀ k₀ stop k =
-    (at < stop) × (stop ≤ len) × ((j : ℕ) → j < k → at < areaIn areas j .base .0 - base .0 → stop ≤ areaIn areas j .base .0 - base .0)
+Inv-loop base declared at areas last end k₀ stop k =
+    (at .0 < stop .0) × (stop .0 ≤ end .0) × ((j : ℕ) → j < k → at .0 < areaIn areas j .base .0 - base .0 → stop .0 ≤ areaIn areas j .base .0 - base .0)
 
 abbrev μ-loop : tie.MeasureT-loop
-μ-loop base declared at len areas end stop₀ k₀ stop k = end - k
+μ-loop base declared at areas last end k₀ stop k = last - k
 
 in-use-requires : tie.Need-in-use-requires Inv-loop μ-loop
 in-use-requires c κs = search needs
@@ -41,8 +41,8 @@ loop-again : tie.Need-loop-again Inv-loop μ-loop
 loop-again c =
     let areas = c .before .before .before .before .before .args .t2 in
     let base = c .before .before .before .before .before .args .base in
-    let at = c .before .before .before .before .before .args .at in
-    let r = c .start-place .result in
+    let at = c .before .before .before .before .before .args .at .0 in
+    let r = c .start-place .result .0 in
     let s = c .start-place .ensures in
     let inv = c .before .before .before .loop .inv in (
       s .low (inv .0),
@@ -61,8 +61,8 @@ returns c =
       clear = λ e p h l.
           out-of-areas (at .t2) (at .declared) (frame (at .base .0 + p)) (omega arith)
           (λ j w.
-          still-out (areaIn (at .t2) j) (at .base .0) (at .at) p h (λ u. omega (arith, inv .2 j (omega arith) u))
-          (out-of-area (at .t2) (at .declared) (frame (at .base .0 + at .at)) e j (omega arith)));
+          still-out (areaIn (at .t2) j) (at .base .0) (at .at .0) p h (λ u. omega (arith, inv .2 j (omega arith) u))
+          (out-of-area (at .t2) (at .declared) (frame (at .base .0 + at .at .0)) e j (omega arith)));
     }
 
 pub next-area-spec : {M : Type 1} → statement M

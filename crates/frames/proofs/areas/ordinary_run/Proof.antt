@@ -2,8 +2,8 @@
 use Prim.Native.Nat.{ℕ, _-_, _≤_, _<_}
 use native.Mathlib.Nat.{le-refl}
 use native.Mathlib.Omega.{arith}
-use mathlib.Core.Bool.{true}
-use mathlib.Core.Path.{_≡_}
+use mathlib.Core.Bool.{true, false}
+use mathlib.Core.Path.{_≡_, sym, subst}
 use borrow.Author.Needs.{needs}
 use Rattle.search.proofs.Bools.{below-or-not}
 use Rattle.frames.specs.Scans.{inAreasAt}
@@ -11,11 +11,11 @@ use Rattle.frames.proofs.areas.ordinary_run.Statement.{statement}
 use Rattle.frames.proofs.areas.ordinary_run.Tie as tie
 
 abbrev Inv-loop : tie.InvT-loop
-Inv-loop base areas declared at len i₀ i =
-    (at ≤ i) × (i ≤ len) × ((k : ℕ) → at ≤ k → k < i → inAreasAt base areas declared k ≡ true)
+Inv-loop base areas declared end last at i =
+    (at ≤ i) × (i ≤ last) × ((k : ℕ) → at ≤ k → k < i → inAreasAt base areas declared k ≡ true)
 
 abbrev μ-loop : tie.MeasureT-loop
-μ-loop base areas declared at len i₀ i = len - i
+μ-loop base areas declared end last at i = last - i
 
 loop-holds : tie.Need-loop-holds Inv-loop μ-loop
 loop-holds c = (le-refl _, omega arith, λ k a b. absurd (omega arith))
@@ -28,27 +28,28 @@ next-area-requires c κs = search needs
 
 returns : tie.Need-returns Inv-loop μ-loop
 returns c =
-    let inv = c .before .before .before .before .loop .inv in
+    let inv = c .before .before .before .before .before .loop .inv in
     let next = c .next-area .ensures in
+    let past = c .before .before .before .past-area .ensures in
     record {
-      low = inv .0;
+      low = omega (arith, past .low);
       order = omega (arith, next .low);
-      more = omega (arith, next .low);
+      more = omega (arith, next .low, past .low);
       high = next .high;
-      held = inv .2;
-      clear = next .clear (c .before .before .past-area .ensures .clear (c .before .if1 .taken));
+      held = λ k a b. inv .2 k a (omega arith);
+      clear = next .clear (subst (λ (i : ℕ). inAreasAt (c .before .before .before .before .before .before .args .base) (c .before .before .before .before .before .before .args .areas) (c .before .before .before .before .before .before .args .declared) i ≡ false) (sym (c .before .if1 .taken)) (past .clear (c .before .if1 .taken)));
     }
 
 loop-less : tie.Need-loop-less Inv-loop μ-loop
-loop-less c = omega (arith, c .before .past-area .ensures .low, c .before .past-area .ensures .high)
+loop-less c = omega (arith, c .before .before .past-area .ensures .low, c .before .before .past-area .ensures .high)
 
 loop-again : tie.Need-loop-again Inv-loop μ-loop
 loop-again c =
-    let inv = c .before .before .before .loop .inv in
-    let past = c .before .past-area .ensures in (
+    let inv = c .before .before .before .before .loop .inv in
+    let past = c .before .before .past-area .ensures in (
       omega (arith, past .low),
       past .high,
-      λ k a b. below-or-not k (c .before .before .before .loop .i) (λ h. inv .2 k a h) (λ h. past .held k h b),
+      λ k a b. below-or-not k (c .before .before .before .before .loop .i) (λ h. inv .2 k a h) (λ h. past .held k h b),
     )
 
 returns-2 : tie.Need-returns-2 Inv-loop μ-loop

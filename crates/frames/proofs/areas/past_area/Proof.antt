@@ -25,7 +25,7 @@ returns c =
       low = le-refl _;
       high = omega arith;
       held = λ k a b. absurd (omega arith);
-      clear = λ e. no-area (at .t2) (at .declared) (frame (at .base .0 + at .at)) (omega arith) (omega arith);
+      clear = λ e. no-area (at .t2) (at .declared) (frame (at .base .0 + at .at .0)) (omega arith) (omega arith);
     }
 
 mul-area : tie.Need-mul-area
@@ -41,9 +41,9 @@ returns-2 : tie.Need-returns-2
 returns-2 c =
     let at = c .before .before .before .before .before .args in
     let k = c .before .before .before .before .area-of .result in
-    let p = holderOf (at .t2) (frame (at .base .0 + at .at)) in
+    let p = holderOf (at .t2) (frame (at .base .0 + at .at .0)) in
     let e : k ≡ lowest p (min (at .declared) 8) = c .before .before .before .before .area-of .ensures in
-    past-held (at .base) (at .t2) (at .declared) (at .at) (at .len) k _ (omega arith) (omega arith)
+    past-held (at .base) (at .t2) (at .declared) (at .at .0) (at .end .0) k _ (omega arith) (omega arith)
     (rw e (found-passes p (min (at .declared) 8) (omega arith))) (c .end-place .ensures)
 
 pub past-area-spec : {M : Type 1} → statement M

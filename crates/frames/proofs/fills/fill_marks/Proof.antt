@@ -7,10 +7,10 @@ use Rattle.frames.proofs.fills.fill_marks.Statement.{statement}
 use Rattle.frames.proofs.fills.fill_marks.Tie as tie
 
 abbrev Inv-loop : tie.InvT-loop
-Inv-loop marks₀ from count value end i₀ marks i = Filling marks₀ from count value marks i
+Inv-loop marks₀ count value end from marks i = Filling marks₀ from count value marks i
 
 abbrev μ-loop : tie.MeasureT-loop
-μ-loop marks₀ from count value end i₀ marks i = end - i
+μ-loop marks₀ count value end from marks i = end - i
 
 range-end-requires : tie.Need-range-end-requires Inv-loop μ-loop
 range-end-requires c κs = search needs

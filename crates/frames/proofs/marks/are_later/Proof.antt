@@ -15,21 +15,21 @@ use Rattle.frames.proofs.marks.are_later.Statement.{statement}
 use Rattle.frames.proofs.marks.are_later.Tie as tie
 
 abbrev Inv-loop : tie.InvT-loop
-Inv-loop marks from count len end i₀ i = Passing (marked (hasKind later) marks) from i
+Inv-loop marks count len first end from i = Passing (marked (hasKind later) marks) from i
 
 abbrev μ-loop : tie.MeasureT-loop
-μ-loop marks from count len end i₀ i = end - i
+μ-loop marks count len first end from i = end - i
 
 returns : tie.Need-returns Inv-loop μ-loop
 returns c =
     let p = marked (hasKind later) (c .before .args .marks .now) in
-    let from = c .before .args .from in
+    let from = c .before .args .from .0 in
     sym (ap (every p from) (c .if1 .taken) ∙ every-none p from)
 
 returns-2 : tie.Need-returns-2 Inv-loop μ-loop
 returns-2 c =
     let marks = c .before .before .args .marks .now in
-    let from = c .before .before .args .from in
+    let from = c .before .before .args .from .0 in
     sym
     (every-miss (marked (hasKind later) marks) from (c .before .before .args .count) from (omega arith) (omega arith)
     (past-end (hasKind later) marks from (omega arith)))
@@ -41,7 +41,7 @@ returns-3 : tie.Need-returns-3 Inv-loop μ-loop
 returns-3 c =
     let marks = c .before .before .before .args .marks .now in
     sym
-    (every-miss (marked (hasKind later) marks) (c .before .before .before .args .from) (c .before .before .before .args .count)
+    (every-miss (marked (hasKind later) marks) (c .before .before .before .args .from .0) (c .before .before .before .args .count)
     (length marks) (omega arith) (omega arith) (past-end (hasKind later) marks (length marks) (omega arith)))
 
 add-end : tie.Need-add-end Inv-loop μ-loop

@@ -11,10 +11,10 @@ use Rattle.frames.proofs.marks.can_leave.Statement.{statement}
 use Rattle.frames.proofs.marks.can_leave.Tie as tie
 
 abbrev Inv-loop : tie.InvT-loop
-Inv-loop marks from count end i₀ i = Passing (marked canLeave marks) from i
+Inv-loop marks count end from i = Passing (marked canLeave marks) from i
 
 abbrev μ-loop : tie.MeasureT-loop
-μ-loop marks from count end i₀ i = end - i
+μ-loop marks count end from i = end - i
 
 range-end-requires : tie.Need-range-end-requires Inv-loop μ-loop
 range-end-requires c κs = search needs

@@ -11,10 +11,10 @@ use Rattle.frames.proofs.marks.count_movable.Statement.{statement}
 use Rattle.frames.proofs.marks.count_movable.Tie as tie
 
 abbrev Inv-loop : tie.InvT-loop
-Inv-loop marks from count end found₀ i₀ found i = (i ≤ from + count) × Counting (marked (hasKind movable) marks) from found i
+Inv-loop marks count end found₀ from found i = (i ≤ from + count) × Counting (marked (hasKind movable) marks) from found i
 
 abbrev μ-loop : tie.MeasureT-loop
-μ-loop marks from count end found₀ i₀ found i = end - i
+μ-loop marks count end found₀ from found i = end - i
 
 range-end-requires : tie.Need-range-end-requires Inv-loop μ-loop
 range-end-requires c κs = search needs

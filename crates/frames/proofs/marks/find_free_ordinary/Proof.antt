@@ -11,10 +11,10 @@ use Rattle.frames.proofs.marks.find_free_ordinary.Statement.{statement}
 use Rattle.frames.proofs.marks.find_free_ordinary.Tie as tie
 
 abbrev Inv-loop : tie.InvT-loop
-Inv-loop marks base areas declared from len i₀ i = Seeking (isFreeOrdinary marks base areas declared) from len i
+Inv-loop marks base areas declared len from i = Seeking (isFreeOrdinary marks base areas declared) from len i
 
 abbrev μ-loop : tie.MeasureT-loop
-μ-loop marks base areas declared from len i₀ i = len - i
+μ-loop marks base areas declared len from i = len - i
 
 loop-holds : tie.Need-loop-holds Inv-loop μ-loop
 loop-holds c = seek-start
@@ -30,14 +30,14 @@ free-in-requires c κs =
 returns : tie.Need-returns Inv-loop μ-loop
 returns c =
     ap place
-    (run-hit _ (c .before .before .ordinary-run .ensures) _ (c .before .before .before .before .loop .inv) (c .before .free-in .ensures) (c .if1 .taken))
+    (run-hit _ (c .before .before .before .before .ordinary-run .ensures) _ (c .before .before .before .before .before .before .loop .inv) (c .before .before .before .free-in .ensures) (c .if1 .taken))
 
 loop-less : tie.Need-loop-less Inv-loop μ-loop
-loop-less c = omega (arith, c .before .before .ordinary-run .ensures .more, c .before .before .ordinary-run .ensures .high)
+loop-less c = omega (arith, c .before .before .before .before .ordinary-run .ensures .more, c .before .before .before .before .ordinary-run .ensures .high)
 
 loop-again : tie.Need-loop-again Inv-loop μ-loop
 loop-again c =
-    run-skip _ (c .before .before .ordinary-run .ensures) _ (c .before .before .before .before .loop .inv) (c .before .free-in .ensures) (c .if1 .left)
+    run-skip _ (c .before .before .before .before .ordinary-run .ensures) _ (c .before .before .before .before .before .before .loop .inv) (c .before .before .before .free-in .ensures) (c .if1 .left)
 
 returns-2 : tie.Need-returns-2 Inv-loop μ-loop
 returns-2 c = ap place (seek-end (c .before .loop .inv) (omega arith))

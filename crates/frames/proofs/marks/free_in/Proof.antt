@@ -9,10 +9,10 @@ use Rattle.frames.proofs.marks.free_in.Statement.{statement}
 use Rattle.frames.proofs.marks.free_in.Tie as tie
 
 abbrev Inv-loop : tie.InvT-loop
-Inv-loop marks from end i₀ i = (i ≤ end) × Seeking (marked (hasKind free) marks) from end i
+Inv-loop marks end last from i = (i ≤ end .0) × Seeking (marked (hasKind free) marks) from (end .0) i
 
 abbrev μ-loop : tie.MeasureT-loop
-μ-loop marks from end i₀ i = end - i
+μ-loop marks end last from i = last - i
 
 loop-holds : tie.Need-loop-holds Inv-loop μ-loop
 loop-holds c = (omega arith, seek-start)
@@ -28,8 +28,8 @@ add-if1 c = omega arith
 
 returns : tie.Need-returns Inv-loop μ-loop
 returns c =
-    let i = c .before .before .before .loop .i in
-    part-hit (c .before .before .before .loop .inv .1) (i + 32) _ (omega arith) (omega arith) (c .before .free-in-block .ensures) (c .if1 .taken)
+    let i = c .before .before .before .before .loop .i in
+    part-hit (c .before .before .before .before .loop .inv .1) (i + 32) _ (omega arith) (omega arith) (c .before .before .free-in-block .ensures) (c .if1 .taken)
 
 add-i : tie.Need-add-i Inv-loop μ-loop
 add-i c = omega arith
@@ -39,8 +39,8 @@ loop-less c = omega arith
 
 loop-again : tie.Need-loop-again Inv-loop μ-loop
 loop-again c =
-    let i = c .before .before .before .loop .i in
-    (omega arith, part-miss (c .before .before .before .loop .inv .1) (i + 32) _ (omega arith) (omega arith) (c .before .free-in-block .ensures) (c .if1 .left))
+    let i = c .before .before .before .before .loop .i in
+    (omega arith, part-miss (c .before .before .before .before .loop .inv .1) (i + 32) _ (omega arith) (omega arith) (c .before .before .free-in-block .ensures) (c .if1 .left))
 
 free-one-by-one-requires : tie.Need-free-one-by-one-requires Inv-loop μ-loop
 free-one-by-one-requires c κs = (omega arith, omega arith)

@@ -10,11 +10,11 @@ use Rattle.frames.proofs.ScanFacts.{seek-none}
 use Rattle.frames.proofs.marks.free_in_block.Statement.{statement}
 use Rattle.frames.proofs.marks.free_in_block.Tie as tie
 
+add-t4 : tie.Need-add-t4
+add-t4 c = search needs
+
 block-has-free-requires : tie.Need-block-has-free-requires
 block-has-free-requires c κs = search needs
-
-add-free-one-by-one : tie.Need-add-free-one-by-one
-add-free-one-by-one c = search needs
 
 free-one-by-one-requires : tie.Need-free-one-by-one-requires
 free-one-by-one-requires c κs = search needs
@@ -22,14 +22,11 @@ free-one-by-one-requires c κs = search needs
 returns : tie.Need-returns
 returns c = c .free-one-by-one .ensures
 
-add-result : tie.Need-add-result
-add-result c = search needs
-
 returns-2 : tie.Need-returns-2
 returns-2 c =
-    let at = c .before .before .before .args in
+    let at = c .before .before .before .before .args in
     let p = marked (hasKind free) (at .marks .now) in
-    seek-none p (at .from) (at .from + 32) (omega arith) (λ k a b. some-no p (at .from) 32 (sym (c .before .block-has-free .ensures) ∙ c .if1 .left) k a b)
+    seek-none p (at .from .0) (at .from .0 + 32) (omega arith) (λ k a b. some-no p (at .from .0) 32 (sym (c .before .block-has-free .ensures) ∙ c .if1 .left) k a b)
 
 pub free-in-block-spec : {M : Type 1} → statement M
-free-in-block-spec = tie.close (tie.spec block-has-free-requires add-free-one-by-one free-one-by-one-requires returns add-result returns-2)
+free-in-block-spec = tie.close (tie.spec add-t4 block-has-free-requires free-one-by-one-requires returns returns-2)

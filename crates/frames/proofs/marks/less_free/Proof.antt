@@ -11,10 +11,10 @@ use Rattle.frames.proofs.marks.less_free.Statement.{statement}
 use Rattle.frames.proofs.marks.less_free.Tie as tie
 
 abbrev Inv-loop : tie.InvT-loop
-Inv-loop marks from end least left₀ i₀ left i = Taking (marked (hasKind free) marks) from end least left i
+Inv-loop marks least left₀ end from left i = Taking (marked (hasKind free) marks) from end least left i
 
 abbrev μ-loop : tie.MeasureT-loop
-μ-loop marks from end least left₀ i₀ left i = end - i
+μ-loop marks least left₀ end from left i = end - i
 
 loop-holds : tie.Need-loop-holds Inv-loop μ-loop
 loop-holds c = record { rest = refl }

@@ -11,11 +11,11 @@ use Rattle.frames.proofs.ScanFacts.{seek-none}
 use Rattle.frames.proofs.marks.page_in_block.Statement.{statement}
 use Rattle.frames.proofs.marks.page_in_block.Tie as tie
 
+add-t5 : tie.Need-add-t5
+add-t5 c = search needs
+
 block-has-field-requires : tie.Need-block-has-field-requires
 block-has-field-requires c κs = search needs
-
-add-page-one-by-one : tie.Need-add-page-one-by-one
-add-page-one-by-one c = search needs
 
 page-one-by-one-requires : tie.Need-page-one-by-one-requires
 page-one-by-one-requires c κs = search needs
@@ -23,15 +23,12 @@ page-one-by-one-requires c κs = search needs
 returns : tie.Need-returns
 returns c = c .page-one-by-one .ensures
 
-add-result : tie.Need-add-result
-add-result c = search needs
-
 returns-2 : tie.Need-returns-2
 returns-2 c =
-    let at = c .before .before .before .args in
+    let at = c .before .before .before .before .args in
     let p = marked (isPageOf (at .name)) (at .marks .now) in
     let q = marked (hasField (at .name)) (at .marks .now) in
-    seek-none p (at .from) (at .from + 32) (omega arith) (λ k a b. no-field (at .name) _ (some-no q (at .from) 32 (sym (c .before .block-has-field .ensures) ∙ c .if1 .left) k a b))
+    seek-none p (at .from .0) (at .from .0 + 32) (omega arith) (λ k a b. no-field (at .name) _ (some-no q (at .from .0) 32 (sym (c .before .block-has-field .ensures) ∙ c .if1 .left) k a b))
 
 pub page-in-block-spec : {M : Type 1} → statement M
-page-in-block-spec = tie.close (tie.spec block-has-field-requires add-page-one-by-one page-one-by-one-requires returns add-result returns-2)
+page-in-block-spec = tie.close (tie.spec add-t5 block-has-field-requires page-one-by-one-requires returns returns-2)

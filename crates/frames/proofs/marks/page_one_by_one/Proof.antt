@@ -10,10 +10,10 @@ use Rattle.frames.proofs.marks.page_one_by_one.Statement.{statement}
 use Rattle.frames.proofs.marks.page_one_by_one.Tie as tie
 
 abbrev Inv-loop : tie.InvT-loop
-Inv-loop marks name from end i₀ i = Seeking (marked (isPageOf name) marks) from end i
+Inv-loop marks name end from i = Seeking (marked (isPageOf name) marks) from end i
 
 abbrev μ-loop : tie.MeasureT-loop
-μ-loop marks name from end i₀ i = end - i
+μ-loop marks name end from i = end - i
 
 loop-holds : tie.Need-loop-holds Inv-loop μ-loop
 loop-holds c = seek-start

@@ -12,15 +12,15 @@ first-word-requires c κs = search needs
 words-requires : tie.Need-words-requires
 words-requires c κs = search needs
 
-fill-words-requires : tie.Need-fill-words-requires
-fill-words-requires c κs = search needs
+fill-bitmap-requires : tie.Need-fill-bitmap-requires
+fill-bitmap-requires c κs = search needs
 
 same-length : tie.Need-same-length
 same-length c = search needs
 
 returns : tie.Need-returns
-returns c = c .before .before .fill-words .ensures ∙ ap₂ (λ (x y : ℕ). fill (c .before .before .before .before .before .before .before .before .args .bitmap .now) x y 0) (c .before .before .before .before .before .first-word .ensures) (c .before .before .before .words .ensures)
+returns c = c .before .before .fill-bitmap .ensures ∙ ap₂ (λ (x y : ℕ). fill (c .before .before .before .before .before .before .before .before .args .bitmap .now) x y 0) (c .before .before .before .before .before .first-word .ensures) (c .before .before .before .words .ensures)
 
 pub clear-words-spec : {M : Type 1} → statement M
 clear-words-spec =
-    tie.close (tie.spec first-word-requires words-requires fill-words-requires same-length returns)
+    tie.close (tie.spec first-word-requires words-requires fill-bitmap-requires same-length returns)

@@ -24,7 +24,7 @@ returns : tie.Need-returns
 returns c = returns-it (c .refused .ensures) (read-refused _ _ _ (c .before .before .device-refusal .ensures) (c .before .if1 .taken))
 
 place-of-requires : tie.Need-place-of-requires
-place-of-requires c κs = granted-known _ _ _ (c .before .device-refusal .ensures) (c .if1 .left) .has .low
+place-of-requires c κs = search needs
 
 mul-done : tie.Need-mul-done
 mul-done c = let h = place-below (c .place-of .ensures) (granted-known _ _ _ (c .before .before .device-refusal .ensures) (c .before .if1 .left) .has .in-words) in search needs

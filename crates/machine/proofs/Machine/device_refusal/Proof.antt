@@ -29,7 +29,7 @@ returns-2 : tie.Need-returns-2
 returns-2 c = sym (refusal-first (there (sym (ap not (c .before .before .before .shape-right .ensures)) ∙ c .before .before .if1 .left) (here (sym (c .before .is-outside .ensures) ∙ c .if2 .taken))))
 
 place-of-requires : tie.Need-place-of-requires
-place-of-requires c κs = tabled _ _ _ (sym (c .before .before .before .shape-right .ensures) ∙ not-false _ (c .before .before .if1 .left)) (sym (c .before .is-outside .ensures) ∙ c .if2 .left) .low
+place-of-requires c κs = search needs
 
 mul-is-granted : tie.Need-mul-is-granted
 mul-is-granted c = let h = place-below (c .place-of .ensures) (tabled _ _ _ (sym (c .before .before .before .before .shape-right .ensures) ∙ not-false _ (c .before .before .before .if1 .left)) (sym (c .before .before .is-outside .ensures) ∙ c .before .if2 .left) .in-marks) in search needs

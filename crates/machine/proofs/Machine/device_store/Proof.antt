@@ -24,7 +24,7 @@ returns : tie.Need-returns
 returns c = returns-it (c .refused .ensures) (store-refused _ _ _ _ (c .before .before .device-refusal .ensures) (c .before .if1 .taken))
 
 place-of-requires : tie.Need-place-of-requires
-place-of-requires c κs = granted-known _ _ _ (c .before .device-refusal .ensures) (c .if1 .left) .has .low
+place-of-requires c κs = search needs
 
 mul-words : tie.Need-mul-words
 mul-words c = let h = place-below (c .place-of .ensures) (granted-known _ _ _ (c .before .before .device-refusal .ensures) (c .before .if1 .left) .has .in-words) in search needs

@@ -13,7 +13,7 @@ use Rattle.machine.proofs.Machine.move_out.Statement.{statement}
 use Rattle.machine.proofs.Machine.move_out.Tie as tie
 
 abbrev Inv : tie.InvT-loop
-Inv self ms₀ ws₀ count at₀ end low₀ ms ws at low = Moving (machineOf self) (tables ms₀ ws₀ []) (place at₀) count (tables ms ws []) at end low
+Inv self ms₀ ws₀ count at₀ end low₀ ms ws at low = Moving (machineOf self) (tables ms₀ ws₀ []) (place at₀) count (tables ms ws []) at end (low .0)
 
 abbrev μ : tie.MeasureT-loop
 μ self ms₀ ws₀ count at₀ end low₀ ms ws at low = end - at

@@ -43,7 +43,7 @@ returns-2 : tie.Need-returns-2
 returns-2 c =
     let x = c .before .before .before .before .before .before .before .before .before .before .before .before .before .before .before .before .before .before .before .before .before .before .args in
     let t = tables (x .marks .now) (x .words .now) [] in (
-      moved-by (machineOf (x .self)) t (x .page) (c .before .before .before .before .before .before .before .before .before .before .before .before .before .before .before .before .before .before .if1 .left) (c .before .before .before .before .before .before .before .before .before .before .before .before .before .before .find-free-ordinary .ensures ∙ target-found (machineOf (x .self)) t (x .low) (c .before .before .before .before .before .before .before .before .before .before .before .before .before .before .before .before .before .before .before .before .before .before .pre .2) (c .before .before .before .before .before .before .before .before .before .before .before .before .before .before .before .before .before .before .before .before .before .before .pre .4)) (c .before .before .before .before .before .before .before .before .before .before .before .set-page .ensures .0) (c .before .before .before .before .before .before .before .before .before .before .before .set-page .ensures .1)
+      moved-by (machineOf (x .self)) t (x .page) (c .before .before .before .before .before .before .before .before .before .before .before .before .before .before .before .before .before .before .if1 .left) (c .before .before .before .before .before .before .before .before .before .before .before .before .before .before .find-free-ordinary .ensures ∙ target-found (machineOf (x .self)) t (x .low .0) (c .before .before .before .before .before .before .before .before .before .before .before .before .before .before .before .before .before .before .before .before .before .before .pre .2) (c .before .before .before .before .before .before .before .before .before .before .before .before .before .before .before .before .before .before .before .before .before .before .pre .4)) (c .before .before .before .before .before .before .before .before .before .before .before .set-page .ensures .0) (c .before .before .before .before .before .before .before .before .before .before .before .set-page .ensures .1)
           (c .before .before .before .before .set-page2 .ensures .0) (c .before .before .before .before .set-page2 .ensures .1),
       none-after (machineOf (x .self)) _ (x .page) (c .before .before .before .before .before .before .before .before .before .before .before .before .before .before .before .before .before .before .before .before .before .before .pre .4) (c .before .before .before .before .before .before .before .before .before .before .before .before .before .before .before .before .before .before .before .before .before .before .pre .3) (c .before .before .before .before .before .before .before .before .before .before .before .before .before .before .find-free-ordinary .ensures) (c .before .before .before .before .before .before .before .before .before .before .before .set-page .ensures .0) (c .before .before .before .before .set-page2 .ensures .0),
     )

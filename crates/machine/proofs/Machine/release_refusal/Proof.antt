@@ -37,9 +37,7 @@ element-copy-out-a c =
     ranged (machineOf (x .t1)) (x .area) (x .frame) (x .count) _ (sym (c .before .before .before .shape-right .ensures) ∙ not-false _ (c .before .before .if1 .left)) (sym (c .before .is-bad-range .ensures) ∙ c .if2 .left) .eight
 
 place-of-requires : tie.Need-place-of-requires
-place-of-requires c κs =
-    let x = c .before .before .before .before .before .before .before .before .before .args in
-    ranged (machineOf (x .t1)) (x .area) (x .frame) (x .count) _ (sym (c .before .before .before .before .before .shape-right .ensures) ∙ not-false _ (c .before .before .before .before .if1 .left)) (sym (c .before .before .before .is-bad-range .ensures) ∙ c .before .before .if2 .left) .low
+place-of-requires c κs = search needs
 
 range-refusal-requires : tie.Need-range-refusal-requires
 range-refusal-requires c κs =

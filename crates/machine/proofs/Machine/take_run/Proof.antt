@@ -22,7 +22,7 @@ frame-of-bit-requires : tie.Need-frame-of-bit-requires
 frame-of-bit-requires c κs = (omega (arith, c .before .before .before .before .pre .bit-high), omega (arith, c .before .before .before .before .pre .end-high, c .before .before .before .before .pre .memory-high))
 
 place-of-requires : tie.Need-place-of-requires
-place-of-requires c κs = subst (λ (f : Frame). c .before .before .before .before .before .before .args .t1 .base .0 ≤ f .0) (sym (c .before .frame-of-bit .ensures)) (omega (arith, c .before .before .before .before .before .before .pre .first-low))
+place-of-requires c κs = search needs
 
 move-out-requires : tie.Need-move-out-requires
 move-out-requires c κs =

@@ -1,51 +1,50 @@
 -- `machine::areas::first_held` meets its contract: the area's ends say which place it is. Assumes nothing.
+use Rattle.frames.specs.declared.Frame.{Frame}
+use Rattle.frames.specs.declared.Place.{Place}
 use Rattle.machine.proofs.Taken.{held-first, held-before, held-empty, held-after, held-later}
+use mathlib.Core.Path.{ap, _∙_}
 use native.Mathlib.Omega.{arith}
 use borrow.Author.Needs.{needs}
 use Rattle.machine.proofs.areas.first_held.Statement.{statement}
 use Rattle.machine.proofs.areas.first_held.Tie as tie
 
-add-if1 : tie.Need-add-if1
-add-if1 c = search needs
-
-add-if2 : tie.Need-add-if2
-add-if2 c = search needs
-
-sub-if2 : tie.Need-sub-if2
-sub-if2 c = search needs
+frame-at-requires : tie.Need-frame-at-requires
+frame-at-requires c κs = search needs
 
 returns : tie.Need-returns
-returns c = let x = c .before .before .args in held-first (x .area) (x .base) (x .from) (x .end) (omega arith) (omega arith) (omega arith)
+returns c = let x = c .before .before .before .before .before .before .before .before .args in let f = ap (λ (v : Frame). v .0) (c .before .before .before .before .before .before .before .frame-at .ensures) in held-first (x .area) (x .base .0) (x .from .0) (x .end .0) (omega arith) (omega (arith, f)) (omega (arith, f))
 
 returns-2 : tie.Need-returns-2
-returns-2 c = let x = c .before .before .args in held-before (x .area) (x .base) (x .from) (x .end) (omega arith) (omega arith)
+returns-2 c = let x = c .before .before .before .before .before .before .before .before .args in let f = ap (λ (v : Frame). v .0) (c .before .before .before .before .before .before .before .frame-at .ensures) in held-before (x .area) (x .base .0) (x .from .0) (x .end .0) (omega arith) (omega (arith, f))
 
 returns-3 : tie.Need-returns-3
-returns-3 c = let x = c .before .before .args in held-empty (x .area) (x .base) (x .from) (x .end) (omega arith) (omega arith)
+returns-3 c = let x = c .before .before .before .before .before .before .args in held-empty (x .area) (x .base .0) (x .from .0) (x .end .0) (omega arith) (omega arith)
 
-add-if4 : tie.Need-add-if4
-add-if4 c = search needs
+frame-at-requires-2 : tie.Need-frame-at-requires-2
+frame-at-requires-2 c κs = search needs
 
 returns-4 : tie.Need-returns-4
-returns-4 c = let x = c .before .before .before .args in held-after (x .area) (x .base) (x .from) (x .end) (omega arith) (omega arith)
+returns-4 c = let x = c .before .before .before .before .before .before .before .before .before .before .args in let g = ap (λ (v : Frame). v .0) (c .before .before .before .frame-at2 .ensures) in held-after (x .area) (x .base .0) (x .from .0) (x .end .0) (omega arith) (omega (arith, g))
 
-sub-result : tie.Need-sub-result
-sub-result c = search needs
+place-of-requires : tie.Need-place-of-requires
+place-of-requires c κs = search needs
 
 returns-5 : tie.Need-returns-5
-returns-5 c = let x = c .before .before .before .args in held-later (x .area) (x .base) (x .from) (x .end) (omega arith) (omega arith) (omega arith)
+returns-5 c =
+    let x = c .before .before .before .before .before .before .before .before .before .before .before .args in
+    let f = ap (λ (v : Frame). v .0) (c .before .before .before .before .before .before .before .before .before .before .frame-at .ensures) in
+    let g = ap (λ (v : Frame). v .0) (c .before .before .before .before .frame-at2 .ensures) in
+    ap (λ (v : Place). v .0) (c .place-of .ensures) ∙ held-later (x .area) (x .base .0) (x .from .0) (x .end .0) (omega (arith, f)) (omega (arith, g)) (omega arith)
 
 pub first-held-spec : {M : Type 1} → statement M
 first-held-spec =
     tie.close
     (tie.spec
-    add-if1
-    add-if2
-    sub-if2
+    frame-at-requires
     returns
     returns-2
     returns-3
-    add-if4
+    frame-at-requires-2
     returns-4
-    sub-result
+    place-of-requires
     returns-5)

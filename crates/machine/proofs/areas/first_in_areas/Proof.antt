@@ -7,10 +7,10 @@ use Rattle.machine.proofs.areas.first_in_areas.Statement.{statement}
 use Rattle.machine.proofs.areas.first_in_areas.Tie as tie
 
 abbrev Inv-loop : tie.InvT-loop
-Inv-loop base declared from end areas last lowest₀ k₀ lowest k = (k ≤ last) × InAreas base areas from end k lowest
+Inv-loop base declared from areas last end k₀ lowest k = (k ≤ last) × InAreas (base .0) areas (from .0) (end .0) k (lowest .0)
 
 abbrev μ-loop : tie.MeasureT-loop
-μ-loop base declared from end areas last lowest₀ k₀ lowest k = last - k
+μ-loop base declared from areas last end k₀ lowest k = last - k
 
 loop-holds : tie.Need-loop-holds Inv-loop μ-loop
 loop-holds c = (omega arith, areas-start (omega arith))

@@ -13,16 +13,16 @@ use Rattle.machine.proofs.areas.first_used.Statement.{statement}
 use Rattle.machine.proofs.areas.first_used.Tie as tie
 
 abbrev Inv-loop : tie.InvT-loop
-Inv-loop marks from end len last i₀ i = (i ≤ end) × Seeking (λ q. not (marked (hasKind free) marks q)) from end i
+Inv-loop marks end len last from i = (i ≤ end .0) × Seeking (λ q. not (marked (hasKind free) marks q)) from (end .0) i
 
 abbrev μ-loop : tie.MeasureT-loop
-μ-loop marks from end len last i₀ i = last - i
+μ-loop marks end len last from i = last - i
 
 loop-holds : tie.Need-loop-holds Inv-loop μ-loop
 loop-holds c = (omega arith, seek-start)
 
 returns : tie.Need-returns Inv-loop μ-loop
-returns c = seek-end (seek-skip (c .before .before .loop .inv .1) (c .before .before .before .args .end) (omega arith) (omega arith) (λ k a b. used-past (c .before .before .before .args .marks .now) k (omega arith))) (omega arith)
+returns c = seek-end (seek-skip (c .before .before .loop .inv .1) (c .before .before .before .args .end .0) (omega arith) (omega arith) (λ k a b. used-past (c .before .before .before .args .marks .now) k (omega arith))) (omega arith)
 
 mul-if2 : tie.Need-mul-if2 Inv-loop μ-loop
 mul-if2 c = search needs
@@ -43,7 +43,7 @@ loop-again : tie.Need-loop-again Inv-loop μ-loop
 loop-again c = (omega arith, seek-turn (c .before .before .before .before .loop .inv .1) (omega arith) (ap not (eq-eqb _ _ (c .if2 .left))))
 
 returns-3 : tie.Need-returns-3 Inv-loop μ-loop
-returns-3 c = seek-end (seek-skip (c .before .loop .inv .1) (c .before .before .args .end) (omega arith) (omega arith) (λ k a b. absurd (omega arith))) (omega arith)
+returns-3 c = seek-end (seek-skip (c .before .loop .inv .1) (c .before .before .args .end .0) (omega arith) (omega arith) (λ k a b. absurd (omega arith))) (omega arith)
 
 pub first-used-spec : {M : Type 1} → statement M
 first-used-spec =

@@ -8,32 +8,32 @@ use borrow.Author.Needs.{needs}
 use Rattle.machine.proofs.areas.lowest_end.Statement.{statement}
 use Rattle.machine.proofs.areas.lowest_end.Tie as tie
 
-mul-start : tie.Need-mul-start
-mul-start c = search needs
+byte-of-frame-requires : tie.Need-byte-of-frame-requires
+byte-of-frame-requires c κs = search needs
 
 round-up-requires : tie.Need-round-up-requires
 round-up-requires c κs = search needs
 
 add-result : tie.Need-add-result
-add-result c = let x = c .before .before .before .before .args in omega (arith, c .before .round-up .ensures, up-high (x .first * 4096) (x .rounded .alignment) (omega arith))
+add-result c = let x = c .before .before .before .before .before .args in omega (arith, c .before .round-up .ensures, up-high (c .before .before .before .before .byte-of-frame .result) (x .rounded .alignment) (omega arith))
 
 returns : tie.Need-returns
-returns c = let x = c .before .before .before .before .args in let e : x .first * 4096 ≡ max (x .rounded .base) (x .first * 4096) = omega arith in ap (λ (y : ℕ). y + x .rounded .size) (c .before .round-up .ensures ∙ ap (λ (y : ℕ). roundUp y (x .rounded .alignment)) e)
+returns c = let x = c .before .before .before .before .before .args in let e : c .before .before .before .before .byte-of-frame .result ≡ max (x .rounded .base) (x .first .0 * 4096) = omega arith in ap (λ (y : ℕ). y + x .rounded .size) (c .before .round-up .ensures ∙ ap (λ (y : ℕ). roundUp y (x .rounded .alignment)) e)
 
 round-up-requires-2 : tie.Need-round-up-requires-2
 round-up-requires-2 c κs = search needs
 
 add-result-2 : tie.Need-add-result-2
-add-result-2 c = let x = c .before .before .before .before .args in omega (arith, c .before .round-up2 .ensures, up-high (x .rounded .base) (x .rounded .alignment) (omega arith))
+add-result-2 c = let x = c .before .before .before .before .before .args in omega (arith, c .before .round-up2 .ensures, up-high (x .rounded .base) (x .rounded .alignment) (omega arith))
 
 returns-2 : tie.Need-returns-2
-returns-2 c = let x = c .before .before .before .before .args in let e : x .rounded .base ≡ max (x .rounded .base) (x .first * 4096) = omega arith in ap (λ (y : ℕ). y + x .rounded .size) (c .before .round-up2 .ensures ∙ ap (λ (y : ℕ). roundUp y (x .rounded .alignment)) e)
+returns-2 c = let x = c .before .before .before .before .before .args in let e : x .rounded .base ≡ max (x .rounded .base) (x .first .0 * 4096) = omega arith in ap (λ (y : ℕ). y + x .rounded .size) (c .before .round-up2 .ensures ∙ ap (λ (y : ℕ). roundUp y (x .rounded .alignment)) e)
 
 pub lowest-end-spec : {M : Type 1} → statement M
 lowest-end-spec =
     tie.close
     (tie.spec
-    mul-start
+    byte-of-frame-requires
     round-up-requires
     add-result
     returns

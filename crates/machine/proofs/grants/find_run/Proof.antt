@@ -36,7 +36,7 @@ bit-step-requires : tie.Need-bit-step-requires Inv μ
 bit-step-requires c κs = c .before .before .before .before .before .pre .order-high
 
 first-aligned-requires : tie.Need-first-aligned-requires Inv μ
-first-aligned-requires c κs = (c .before .before .before .before .before .before .pre .order-high, c .before .before .before .before .before .before .pre .bit-high, c .before .before .before .before .before .before .pre .begins)
+first-aligned-requires c κs = (c .before .before .before .before .before .before .pre .order-high, c .before .before .before .before .before .before .pre .bit-high, c .before .before .before .before .before .before .pre .begins, omega (arith, c .before .before .before .before .before .before .pre .end-high))
 
 loop-holds : tie.Need-loop-holds Inv μ
 loop-holds c =

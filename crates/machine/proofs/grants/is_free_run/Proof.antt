@@ -25,7 +25,7 @@ frame-of-bit-requires : tie.Need-frame-of-bit-requires
 frame-of-bit-requires c κs = (c .before .before .before .before .pre .0, c .before .before .before .before .pre .2)
 
 place-of-requires : tie.Need-place-of-requires
-place-of-requires c κs = subst (λ (f : Frame). c .before .before .before .before .before .args .base .0 ≤ f .0) (sym (c .frame-of-bit .ensures)) (omega (arith, c .before .before .before .before .before .pre .1))
+place-of-requires c κs = search needs
 
 can-leave-requires : tie.Need-can-leave-requires
 can-leave-requires c κs = search needs

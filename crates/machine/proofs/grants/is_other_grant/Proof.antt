@@ -25,8 +25,8 @@ cast-if1 c = omega (arith, c .shared-slice-known2 .given (c .before .before .arg
 returns : tie.Need-returns
 returns c = first-holds _ _ (ap not (ne-eqb _ _ (c .if1 .taken)))
 
-add-are-later : tie.Need-add-are-later
-add-are-later c = search needs
+add-t5 : tie.Need-add-t5
+add-t5 c = search needs
 
 sub-are-later : tie.Need-sub-are-later
 sub-are-later c = search needs
@@ -41,4 +41,4 @@ returns-2 c =
     second-decides _ _ (ap not (eq-eqb _ _ (c .before .if1 .left)))
 
 pub is-other-grant-spec : {M : Type 1} → statement M
-is-other-grant-spec = tie.close (tie.spec mul-if1 shared-slice-read-if1 cast-if1 returns add-are-later sub-are-later are-later-requires returns-2)
+is-other-grant-spec = tie.close (tie.spec mul-if1 shared-slice-read-if1 cast-if1 returns add-t5 sub-are-later are-later-requires returns-2)

@@ -16,7 +16,7 @@ frame-of-bit-requires : tie.Need-frame-of-bit-requires
 frame-of-bit-requires c κs = (c .before .pre .0, c .before .pre .2)
 
 place-of-requires : tie.Need-place-of-requires
-place-of-requires c κs = subst (λ (f : Frame). c .before .before .args .base .0 ≤ f .0) (sym (c .frame-of-bit .ensures)) (omega (arith, c .before .before .pre .1))
+place-of-requires c κs = search needs
 
 count-movable-requires : tie.Need-count-movable-requires
 count-movable-requires c κs = search needs

@@ -29,13 +29,13 @@ returns-4 : tie.Need-returns-4
 unfolding memoryRight
 returns-4 c =
     let a = c .before .before .before .before .args in
-    simp (le-leb _ _ (c .before .before .before .if1 .left), le-leb _ _ (c .before .before .if2 .left), le-leb _ _ (c .before .if3 .left), lt-leb (a .base + a .frames) (2 ^ 36) (omega arith))
+    simp (le-leb _ _ (c .before .before .before .if1 .left), le-leb _ _ (c .before .before .if2 .left), le-leb _ _ (c .before .if3 .left), lt-leb (a .base .0 + a .frames) (2 ^ 36) (omega arith))
 
 returns-5 : tie.Need-returns-5
 unfolding memoryRight
 returns-5 c =
     let a = c .before .before .before .before .args in
-    simp (le-leb _ _ (c .before .before .before .if1 .left), le-leb _ _ (c .before .before .if2 .left), le-leb _ _ (c .before .if3 .left), le-leb (a .base + a .frames) (2 ^ 36) (omega arith))
+    simp (le-leb _ _ (c .before .before .before .if1 .left), le-leb _ _ (c .before .before .if2 .left), le-leb _ _ (c .before .if3 .left), le-leb (a .base .0 + a .frames) (2 ^ 36) (omega arith))
 
 pub memory-right-spec : {M : Type 1} → statement M
 memory-right-spec = tie.close (tie.spec returns returns-2 returns-3 sub-if4 returns-4 returns-5)

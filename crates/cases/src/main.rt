@@ -1,0 +1,233 @@
+// Plays the cases of `data/` and compares what each gives with what is expected.
+//
+// A case NAME has its records in NAME.rec and the whole output, heading and last line included, in NAME.out. The names stand one a line in
+// cases.txt. Those in cuts.txt are played at every length, from no byte to all of them, and their outputs stand one after the other.
+ghost use mathlib.Core.Path.{_≡_};
+ghost use Prim.Native.Nat.{_+_, _≤_};
+ghost use lib.ListN.{length};
+ghost use Rattle.cases.specs.Tallies.{Counted};
+use libc::STDOUT_FILENO;
+use machine::Machine;
+use playback::Progress;
+use playback::Stop;
+use records::lines;
+
+// How many cases were played, and how many of them gave something else than expected.
+struct Tally {
+    cases: u64,
+    failed: u64,
+}
+
+// Reads a file to its end. A file that cannot be opened, or fills the buffer, counts as one that fills it: nothing is played in part.
+fn load(path: &[u8], buffer: &mut [u8]) -> usize
+    ensures { λ r. ⌜ r ≤ length (now (buffer .entry)) ⌝ }
+{
+    let file = os::open_read(path);
+    if file < 0 {
+        return buffer.len();
+    }
+    let got = io::read_full(file, buffer);
+    libc::close(file);
+    got
+}
+
+// Reads the file of a case: its name with an ending.
+fn load_part(name: &[u8], ending: &[u8], buffer: &mut [u8]) -> usize
+    ensures { λ r. ⌜ r ≤ length (now (buffer .entry)) ⌝ }
+{
+    let mut path = [0u8; 64];
+    let named = lines::put_bytes(&mut path, 0, name);
+    let whole = lines::put_bytes(&mut path, named, ending);
+    load(&path[0..whole], buffer)
+}
+
+// The last line, by the reason that the records stopped. An output that is full has none.
+fn put_last(out: &mut [u8], p: Progress, why: Stop) -> usize
+    requires { ⌜ p .text ≤ length (now out) ⌝ }
+    ensures { λ r. ⌜ r ≤ length (now (out .entry)) ⌝ }
+{
+    match why {
+        Stop::All => lines::put_end(out, p.text, p.step),
+        Stop::Cut => lines::put_bad(out, p.text, p.at as u64),
+        Stop::Unknown => lines::put_bad(out, p.text, p.at as u64),
+        Stop::Full => p.text,
+    }
+}
+
+// Plays records and appends the whole output to the text.
+fn play(
+    bytes: &[u8],
+    out: &mut [u8],
+    marks: &mut [u32],
+    words: &mut [u64],
+    bitmap: &mut [u64],
+    text: usize,
+) -> usize
+    requires { ⌜ text ≤ length (now out) ⌝ }
+    ensures { λ r. ⌜ r ≤ length (now (out .entry)) ⌝ }
+{
+    let headed = lines::put_heading(out, text);
+    let machine = Machine::fresh();
+    let start = Progress {
+        machine,
+        at: 0,
+        text: headed,
+        step: 0,
+    };
+    let stopped = playback::answer_records(bytes, out, marks, words, bitmap, start);
+    let p = stopped.progress;
+    let why = stopped.why;
+    put_last(out, p, why)
+}
+
+// Plays the first `from` bytes, then one more, up to all of them, and answers how long the outputs are together. The tables are not cleared
+// in between: a boot zeroes what it is lent, so nothing of an earlier turn may show.
+fn play_from(bytes: &[u8], out: &mut [u8], from: usize) -> usize
+    ensures { λ r. ⌜ r ≤ length (now (out .entry)) ⌝ }
+{
+    let mut marks = [0u32; 2048];
+    let mut words = [0u64; 2048];
+    let mut bitmap = [0u64; 40];
+    let mut text = 0;
+    let mut n = from;
+    while n < bytes.len() {
+        text = play(&bytes[0..n], out, &mut marks, &mut words, &mut bitmap, text);
+        n += 1;
+    }
+    play(bytes, out, &mut marks, &mut words, &mut bitmap, text)
+}
+
+// The first place where two texts differ; where one ends first, that is its end.
+fn first_difference(a: &[u8], b: &[u8]) -> usize {
+    let mut i = 0;
+    while i < a.len() {
+        if b.len() <= i {
+            return i;
+        }
+        if a[i] != b[i] {
+            return i;
+        }
+        i += 1;
+    }
+    i
+}
+
+// Writes what a case gave, and answers whether it is what was expected.
+fn judge(name: &[u8], got: &[u8], expected: &[u8]) -> bool {
+    let at = first_difference(got, expected);
+    if at == got.len() {
+        if at == expected.len() {
+            io::write_all(STDOUT_FILENO, b"ok ");
+            io::write_all(STDOUT_FILENO, name);
+            io::write_all(STDOUT_FILENO, b"\n");
+            return true;
+        }
+    }
+    io::write_all(STDOUT_FILENO, b"FAILED ");
+    io::write_all(STDOUT_FILENO, name);
+    io::write_all(STDOUT_FILENO, b" at byte ");
+    io::print_decimal(STDOUT_FILENO, at as u64);
+    io::write_all(STDOUT_FILENO, b"\n");
+    false
+}
+
+// A file that is missing or too long.
+fn unreadable(name: &[u8]) -> bool {
+    io::write_all(STDOUT_FILENO, b"FAILED ");
+    io::write_all(STDOUT_FILENO, name);
+    io::write_all(STDOUT_FILENO, b" has a file that cannot be read whole\n");
+    false
+}
+
+// One case, played whole or at every length.
+fn run_case(name: &[u8], every: bool) -> bool {
+    let mut bytes = [0u8; 65536];
+    let mut expected = [0u8; 65536];
+    let mut out = [0u8; 65536];
+    let size = load_part(name, b".rec", &mut bytes);
+    if 65536 <= size {
+        return unreadable(name);
+    }
+    let length = load_part(name, b".out", &mut expected);
+    if 65536 <= length {
+        return unreadable(name);
+    }
+    let from = if every { 0 } else { size };
+    let text = play_from(&bytes[0..size], &mut out, from);
+    judge(name, &out[0..text], &expected[0..length])
+}
+
+// The end of the line that begins at a place.
+fn line_end(list: &[u8], at: usize) -> usize
+    requires { ⌜ at ≤ length (now list) ⌝ }
+    ensures { λ r. ⌜ (at ≤ r) × (r ≤ length (now (list .entry))) ⌝ }
+{
+    let mut i = at;
+    while i < list.len() {
+        if list[i] == b'\n' {
+            return i;
+        }
+        i += 1;
+    }
+    i
+}
+
+// One case more.
+fn counted(t: Tally, passed: bool) -> Tally
+    requires { ⌜ Counted 65535 t ⌝ }
+    ensures { λ r. ⌜ (r .cases ≡ t .cases + 1) × (r .failed ≤ t .failed + 1) ⌝ }
+{
+    if passed {
+        return Tally {
+            cases: t.cases + 1,
+            failed: t.failed,
+        };
+    }
+    Tally {
+        cases: t.cases + 1,
+        failed: t.failed + 1,
+    }
+}
+
+// The cases that a list names.
+fn run_names(list: &[u8], every: bool) -> Tally
+    requires { ⌜ length (now list) ≤ 65536 ⌝ }
+    ensures { λ r. ⌜ Counted 65536 r ⌝ }
+{
+    let mut t = Tally {
+        cases: 0,
+        failed: 0,
+    };
+    let mut at = 0;
+    while at < list.len() {
+        let end = line_end(list, at);
+        t = counted(t, run_case(&list[at..end], every));
+        at = end + 1;
+    }
+    t
+}
+
+// The cases of the list in a file. A list that cannot be read counts as a case that failed.
+fn run_list(path: &[u8], every: bool) -> Tally
+    ensures { λ r. ⌜ Counted 65536 r ⌝ }
+{
+    let mut list = [0u8; 65536];
+    let size = load(path, &mut list);
+    if 65536 <= size {
+        unreadable(path);
+        return Tally {
+            cases: 1,
+            failed: 1,
+        };
+    }
+    run_names(&list[0..size], every)
+}
+
+fn main() {
+    let a = run_list(b"cases.txt", false);
+    let b = run_list(b"cuts.txt", true);
+    io::print_decimal(STDOUT_FILENO, a.cases + b.cases);
+    io::write_all(STDOUT_FILENO, b" cases, ");
+    io::print_decimal(STDOUT_FILENO, a.failed + b.failed);
+    io::write_all(STDOUT_FILENO, b" failed\n");
+}
