@@ -4,6 +4,7 @@
 
 pub mod areas;
 pub mod calls;
+pub mod day;
 pub mod devices;
 pub mod machine;
 pub mod pages;

@@ -63,6 +63,7 @@ fn frame_count(rng: &mut Rng) -> u64 {
     match rng.below(100) {
         0..=89 => rng.within(1, 72),
         90..=98 => rng.within(60, 300),
+        _ if rng.percent(10) => Machine::MAX_FRAMES,
         _ => rng.within(300, 3000),
     }
 }
@@ -176,7 +177,7 @@ pub fn right_state(rng: &mut Rng) -> State {
 }
 
 /// How many ways `break_shape` knows.
-pub const FAULTS: u64 = 20;
+pub const FAULTS: u64 = 22;
 
 /// Makes a right shape wrong in the given way. False if that way needs an
 /// area, a second area or a block order that the state lacks.
@@ -217,6 +218,7 @@ fn break_area(rng: &mut Rng, state: &mut State, fault: u64) -> bool {
     let m = &mut state.machine;
     let block = 1u64 << m.order;
     let (base, frames, order, used) = (m.base, m.frames, m.order, m.declared);
+    let last_block = (base + frames) / block * block;
     let index = rng.below(used) as usize;
     let other = m.areas[(index + 1) % used as usize];
     let area = &mut m.areas[index];
@@ -230,21 +232,39 @@ fn break_area(rng: &mut Rng, state: &mut State, fault: u64) -> bool {
         15 => area.base = u64::MAX / block * block,
         16 => area.count = u64::MAX / block * block,
         17 => *area = Area { order: area.order, ..other },
+        // The last block of the other area, and an area whose end alone is past memory's.
+        20 => *area = Area { base: other.end() - block, count: block, order: area.order },
+        21 => area.base = last_block,
         _ => state.bitmap.truncate(needed - 1),
     }
     match fault {
         11 => state.machine.areas[index].base % block != 0,
         12 => state.machine.areas[index].count % block != 0,
-        17 => used > 1,
+        17 | 20 => used > 1,
         _ => true,
     }
 }
 
-/// A state of wrong shape.
+/// A record of extreme numbers throughout.
+fn extreme_machine(rng: &mut Rng) -> Machine {
+    Machine {
+        base: rng.extreme(),
+        frames: rng.extreme(),
+        order: rng.extreme(),
+        declared: rng.extreme(),
+        areas: [(); 8].map(|()| Area { base: rng.extreme(), count: rng.extreme(), order: rng.extreme() }),
+    }
+}
+
+/// A state of wrong shape, but for the rare record of extreme numbers that fits its tables.
 pub fn wrong_state(rng: &mut Rng) -> State {
     let mut state = right_state(rng);
     if rng.percent(5) {
         state.machine = Machine::fresh();
+        return state;
+    }
+    if rng.percent(5) {
+        state.machine = extreme_machine(rng);
         return state;
     }
     let fault = rng.below(FAULTS);
@@ -574,6 +594,29 @@ pub fn call_after_boot(rng: &mut Rng, state: &State) -> Call {
 }
 
 // ---- lists ----
+
+/// The refusals each kind of call can give, in the order of the kind bytes.
+const POSSIBLE: [&[u64]; 13] = [
+    &[0, 1, 12, 13, 14, 20, 21, 22, 23, 24, 25],
+    &[0, 1, 2, 4, 6],
+    &[0, 1, 2, 4, 6],
+    &[0, 1, 2, 3, 5],
+    &[0, 1, 2, 3, 5],
+    &[0, 1, 2, 3, 5],
+    &[0, 1, 2, 3, 5],
+    &[0, 1, 2, 3],
+    &[0, 1, 2, 7, 8],
+    &[0, 1, 2, 3, 9],
+    &[0, 1, 2, 3],
+    &[0, 1, 2, 3],
+    &[0, 1, 2, 10, 11, 12, 13, 14],
+];
+
+/// Every kind of call with each number it can answer: a list that should occur whole.
+pub fn possible_pairs() -> Vec<(u8, u64)> {
+    let pairs = |(kind, numbers): (usize, &&[u64])| numbers.iter().map(move |&r| (kind as u8, r)).collect::<Vec<_>>();
+    POSSIBLE.iter().enumerate().flat_map(pairs).collect()
+}
 
 /// A fresh record with clean tables and a boot that fits them.
 pub fn boot_start(rng: &mut Rng) -> (State, Call) {

@@ -1,33 +1,11 @@
 //! The generated calls: what they reach, and what must hold for all of them.
 
 use reference::machine::{kind, kind_of};
-use reference::sample::{break_shape, call, records, right_state, run, text, Rng, FAULTS};
+use reference::sample::{break_shape, call, possible_pairs, records, right_state, run, text, Rng, FAULTS};
 use reference::{Answer, Call, State};
 use std::collections::{BTreeMap, HashMap};
 
 const CALLS: u64 = 1_000_000;
-
-/// The refusals each kind of call can give, in the order of the kind bytes.
-const POSSIBLE: [&[u64]; 13] = [
-    &[0, 1, 12, 13, 14, 20, 21, 22, 23, 24, 25],
-    &[0, 1, 2, 4, 6],
-    &[0, 1, 2, 4, 6],
-    &[0, 1, 2, 3, 5],
-    &[0, 1, 2, 3, 5],
-    &[0, 1, 2, 3, 5],
-    &[0, 1, 2, 3, 5],
-    &[0, 1, 2, 3],
-    &[0, 1, 2, 7, 8],
-    &[0, 1, 2, 3, 9],
-    &[0, 1, 2, 3],
-    &[0, 1, 2, 3],
-    &[0, 1, 2, 10, 11, 12, 13, 14],
-];
-
-fn possible_pairs() -> Vec<(u8, u64)> {
-    let pairs = |(kind, numbers): (usize, &&[u64])| numbers.iter().map(move |&r| (kind as u8, r)).collect::<Vec<_>>();
-    POSSIBLE.iter().enumerate().flat_map(pairs).collect()
-}
 
 fn check_refusal(before: &State, call: &Call, after: &State, answer: Answer) {
     assert_eq!(before, after, "{call:?}");

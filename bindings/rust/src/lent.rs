@@ -1,0 +1,59 @@
+//! The library's functions on plain slices, and all of this crate's unsafe code.
+//!
+//! They take slices of any length and any contents. With an answer shorter than 3 numbers a call does nothing at all; with a record shorter than 28
+//! it answers 1, 0, 0 and changes nothing else; numbers after the first 28 and the first 3 are kept.
+
+/// The five slices that every call is lent.
+pub struct Lent<'a> {
+    pub record: &'a mut [u64],
+    pub marks: &'a mut [u32],
+    pub words: &'a mut [u64],
+    pub bitmap: &'a mut [u64],
+    pub answer: &'a mut [u64],
+}
+
+/// Declares each function of the library, and a safe function of the same arguments on `Lent`.
+macro_rules! calls {
+    ($($call:ident is $symbol:ident($($number:ident),* $(; $text:ident)?);)*) => {
+        extern "C" {
+            $(fn $symbol(
+                record: *mut u64, record_length: usize,
+                marks: *mut u32, marks_length: usize,
+                words: *mut u64, words_length: usize,
+                bitmap: *mut u64, bitmap_length: usize,
+                answer: *mut u64, answer_length: usize,
+                $($number: u64,)* $($text: *const u8, text_length: usize,)?
+            );)*
+        }
+        $(pub fn $call(lent: Lent, $($number: u64,)* $($text: &[u8],)?) {
+            // SAFETY: the function is proved to read and write inside the slices alone, for every length and every contents, and to keep no
+            // pointer; the slices are live, and borrowed by `lent`, so that no two overlap.
+            unsafe {
+                $symbol(
+                    lent.record.as_mut_ptr(), lent.record.len(),
+                    lent.marks.as_mut_ptr(), lent.marks.len(),
+                    lent.words.as_mut_ptr(), lent.words.len(),
+                    lent.bitmap.as_mut_ptr(), lent.bitmap.len(),
+                    lent.answer.as_mut_ptr(), lent.answer.len(),
+                    $($number,)* $($text.as_ptr(), $text.len(),)?
+                )
+            }
+        })*
+    };
+}
+
+calls! {
+    boot is szk_boot(base, frames, order; text);
+    declare is szk_declare(base, size, limit, alignment, order, fixed);
+    put_movable is szk_put_movable(name);
+    put_fixed is szk_put_fixed(name);
+    drop is szk_drop(name);
+    pin is szk_pin(name);
+    unpin is szk_unpin(name);
+    store is szk_store(name, word);
+    read is szk_read(name);
+    grant is szk_grant(area, count, order);
+    release is szk_release(area, frame, count);
+    device_store is szk_device_store(frame, word);
+    device_read is szk_device_read(frame);
+}

@@ -1,0 +1,171 @@
+//! The proved page manager, for Rust: a machine record whose calls are lent three tables of any length and any contents.
+//!
+//! What each call does and refuses is said in `include/szk.h`.
+
+#![deny(unsafe_op_in_unsafe_fn)]
+#![deny(unsafe_code)]
+
+#[allow(unsafe_code)]
+pub mod lent;
+pub mod refusal;
+
+use lent::Lent;
+
+/// What a call answers: a refusal's number, or `refusal::DONE`, and two numbers.
+#[derive(Clone, Copy, Debug, Default, PartialEq, Eq)]
+pub struct Answer {
+    pub refusal: u64,
+    pub first: u64,
+    pub second: u64,
+}
+
+/// The three tables lent to a call: a mark and a content word for each frame, and the bitmap words.
+pub struct Tables<'a> {
+    pub marks: &'a mut [u32],
+    pub words: &'a mut [u64],
+    pub bitmap: &'a mut [u64],
+}
+
+/// What a declare asks for: amounts in bytes, the order of the pages per bit, and whether the base is where the area must begin.
+#[derive(Clone, Copy, Debug, Default, PartialEq, Eq)]
+pub struct Request {
+    pub base: u64,
+    pub size: u64,
+    pub limit: u64,
+    pub alignment: u64,
+    pub order: u64,
+    pub fixed: bool,
+}
+
+/// A reserved area: its first physical frame, its count of frames, and the order of its pages per bit.
+#[derive(Clone, Copy, Debug, Default, PartialEq, Eq)]
+pub struct Area {
+    pub base: u64,
+    pub count: u64,
+    pub order: u64,
+}
+
+/// The machine record, as the numbers that the library reads and writes.
+#[derive(Clone, Copy, Debug, PartialEq, Eq)]
+pub struct Machine {
+    pub numbers: [u64; Machine::NUMBERS],
+}
+
+impl Machine {
+    /// Numbers of a record: the base, the frames, the order, the areas declared, and three for each of eight areas.
+    pub const NUMBERS: usize = 28;
+
+    /// A fresh record is all zeros; every call but boot refuses it.
+    pub const fn fresh() -> Machine {
+        Machine { numbers: [0; Machine::NUMBERS] }
+    }
+
+    /// The first physical frame.
+    pub fn base(&self) -> u64 {
+        self.numbers[0]
+    }
+
+    /// How many frames there are.
+    pub fn frames(&self) -> u64 {
+        self.numbers[1]
+    }
+
+    /// The block order: a block is 2^order frames.
+    pub fn order(&self) -> u64 {
+        self.numbers[2]
+    }
+
+    /// How many area records are in use.
+    pub fn declared(&self) -> u64 {
+        self.numbers[3]
+    }
+
+    /// The eight area records, those in use first.
+    pub fn areas(&self) -> [Area; 8] {
+        let at = |i: usize| 4 + 3 * i;
+        std::array::from_fn(|i| Area {
+            base: self.numbers[at(i)],
+            count: self.numbers[at(i) + 1],
+            order: self.numbers[at(i) + 2],
+        })
+    }
+
+    /// Makes one call with the record and the tables, and answers what it wrote.
+    fn call(&mut self, t: &mut Tables, make: impl FnOnce(Lent)) -> Answer {
+        let mut answer = [0; 3];
+        make(Lent {
+            record: &mut self.numbers,
+            marks: t.marks,
+            words: t.words,
+            bitmap: t.bitmap,
+            answer: &mut answer,
+        });
+        let [refusal, first, second] = answer;
+        Answer { refusal, first, second }
+    }
+
+    /// Boots a machine whose areas the regions text declares, whatever the record and the tables held.
+    pub fn boot(&mut self, t: &mut Tables, base: u64, frames: u64, order: u64, text: &[u8]) -> Answer {
+        self.call(t, |lent| lent::boot(lent, base, frames, order, text))
+    }
+
+    /// Declares an area. Answers its first frame and its count.
+    pub fn declare(&mut self, t: &mut Tables, r: &Request) -> Answer {
+        self.call(t, |lent| lent::declare(lent, r.base, r.size, r.limit, r.alignment, r.order, u64::from(r.fixed)))
+    }
+
+    /// Puts a movable page. Answers its frame and 0.
+    pub fn put_movable(&mut self, t: &mut Tables, name: u64) -> Answer {
+        self.call(t, |lent| lent::put_movable(lent, name))
+    }
+
+    /// Puts a fixed page, never into an area. Answers its frame and 0.
+    pub fn put_fixed(&mut self, t: &mut Tables, name: u64) -> Answer {
+        self.call(t, |lent| lent::put_fixed(lent, name))
+    }
+
+    /// Drops a page that is not pinned.
+    pub fn drop_page(&mut self, t: &mut Tables, name: u64) -> Answer {
+        self.call(t, |lent| lent::drop(lent, name))
+    }
+
+    /// Pins a movable page.
+    pub fn pin(&mut self, t: &mut Tables, name: u64) -> Answer {
+        self.call(t, |lent| lent::pin(lent, name))
+    }
+
+    /// Makes a pinned page movable again.
+    pub fn unpin(&mut self, t: &mut Tables, name: u64) -> Answer {
+        self.call(t, |lent| lent::unpin(lent, name))
+    }
+
+    /// Stores the word of a page that is not pinned.
+    pub fn store(&mut self, t: &mut Tables, name: u64, word: u64) -> Answer {
+        self.call(t, |lent| lent::store(lent, name, word))
+    }
+
+    /// Reads a page. Answers its frame and its word.
+    pub fn read(&mut self, t: &mut Tables, name: u64) -> Answer {
+        self.call(t, |lent| lent::read(lent, name))
+    }
+
+    /// Grants `count` frames of an area, the first a multiple of 2^order. Answers the first frame and the number of pages moved.
+    pub fn grant(&mut self, t: &mut Tables, area: u64, count: u64, order: u64) -> Answer {
+        self.call(t, |lent| lent::grant(lent, area, count, order))
+    }
+
+    /// Releases a grant.
+    pub fn release(&mut self, t: &mut Tables, area: u64, frame: u64, count: u64) -> Answer {
+        self.call(t, |lent| lent::release(lent, area, frame, count))
+    }
+
+    /// Stores the word of a granted frame.
+    pub fn device_store(&mut self, t: &mut Tables, frame: u64, word: u64) -> Answer {
+        self.call(t, |lent| lent::device_store(lent, frame, word))
+    }
+
+    /// Reads the word of a granted frame. Answers it and 0.
+    pub fn device_read(&mut self, t: &mut Tables, frame: u64) -> Answer {
+        self.call(t, |lent| lent::device_read(lent, frame))
+    }
+}

@@ -1,0 +1,154 @@
+//! Every call of the library is held against the reference: the answer, the record and all three tables.
+
+mod held;
+
+use held::{numbers, Held};
+use reference::sample::{boot_start, call_after_boot, possible_pairs, run, Rng};
+use reference::{Answer, Call, State};
+use std::collections::BTreeMap;
+use szk::lent::{self, Lent};
+use szk::Machine;
+
+/// How often each kind of call was answered with each number.
+type Counts = BTreeMap<(u8, u64), u64>;
+
+const CALLS: [&str; 13] = [
+    "boot", "put movable", "put fixed", "drop", "pin", "unpin", "store", "read", "grant", "release", "device store",
+    "device read", "declare",
+];
+
+fn print_counts(counts: &Counts) {
+    for (kind, name) in CALLS.iter().enumerate() {
+        let of_kind = counts.iter().filter(|((k, _), _)| usize::from(*k) == kind);
+        let each: Vec<String> = of_kind.map(|((_, refusal), times)| format!("{refusal}: {times}")).collect();
+        println!("{name:>12}  {}", each.join("  "));
+    }
+}
+
+fn compare(held: &mut Held, before: &State, call: &Call, after: &State, expected: Answer) {
+    let answer = held.make(call);
+    if !held.agrees(answer, after, expected) {
+        panic!(
+            "{call:?}\non {:?}, marks {:?}, bitmap {:x?}\nthe library answers {answer:?} and leaves {:?}\nthe reference {expected:?} and {:?}",
+            before.machine, before.marks, before.bitmap, held.machine, after.machine
+        );
+    }
+}
+
+#[test]
+fn calls_on_any_record_and_tables() {
+    let mut counts = Counts::new();
+    for seed in 101..=104 {
+        run(seed, 500_000, &mut |before, call, after, expected| {
+            compare(&mut Held::of(before), before, call, after, expected);
+            *counts.entry((call.kind(), expected.refusal)).or_default() += 1;
+        });
+    }
+    println!("{} calls agree; for each call, how often it gave each number:", counts.values().sum::<u64>());
+    print_counts(&counts);
+    assert_eq!(counts.keys().copied().collect::<Vec<_>>(), possible_pairs());
+    println!("all {} pairs of a call and a number that the rules allow were seen, and no other", counts.len());
+}
+
+fn without_text(boot: &Call) -> Call {
+    match boot.clone() {
+        Call::Boot { base, frames, order, .. } => Call::Boot { base, frames, order, text: Vec::new() },
+        call => call,
+    }
+}
+
+/// The library goes on with its own record and tables, so that a difference would stay.
+#[test]
+fn long_lists_of_calls() {
+    let mut accepted = 0;
+    for seed in 0..40 {
+        let mut rng = Rng::new(1000 + seed);
+        let (mut state, boot) = boot_start(&mut rng);
+        let mut held = Held::of(&state);
+        for step in 0..5_000 {
+            let call = match state.machine.frames {
+                0 if step == 0 => boot.clone(),
+                0 => without_text(&boot),
+                _ => call_after_boot(&mut rng, &state),
+            };
+            let expected = state.apply(&call);
+            let answer = held.make(&call);
+            assert!(held.agrees(answer, &state, expected), "seed {seed}, step {step}: {call:?}");
+            accepted += u64::from(expected.refusal == 0);
+        }
+    }
+    println!("40 lists of 5000 calls agree, {accepted} of them accepted");
+    assert!(accepted > 40_000);
+}
+
+/// Makes a call on slices of any length, beyond what the wrapper lends.
+fn lend(call: &Call, lent: Lent) {
+    match call {
+        Call::Boot { base, frames, order, text } => lent::boot(lent, *base, *frames, *order, text),
+        Call::PutMovable { name } => lent::put_movable(lent, *name),
+        Call::PutFixed { name } => lent::put_fixed(lent, *name),
+        Call::Drop { name } => lent::drop(lent, *name),
+        Call::Pin { name } => lent::pin(lent, *name),
+        Call::Unpin { name } => lent::unpin(lent, *name),
+        Call::Store { name, word } => lent::store(lent, *name, *word),
+        Call::Read { name } => lent::read(lent, *name),
+        Call::Grant { area, count, align } => lent::grant(lent, *area, *count, *align),
+        Call::Release { area, frame, count } => lent::release(lent, *area, *frame, *count),
+        Call::DeviceStore { frame, word } => lent::device_store(lent, *frame, *word),
+        Call::DeviceRead { frame } => lent::device_read(lent, *frame),
+        // Any number but 0 means fixed.
+        Call::Declare(r) => {
+            let fixed = if r.fixed { r.base | 1 << 63 } else { 0 };
+            lent::declare(lent, r.base, r.size, r.limit, r.alignment, r.order, fixed)
+        }
+    }
+}
+
+/// Numbers cut or lengthened to a length; the reference knows nothing of those added.
+fn resized(numbers: &[u64], length: usize) -> Vec<u64> {
+    numbers.iter().copied().chain((0..).map(|i| 7_000 + i)).take(length).collect()
+}
+
+fn check_lengths(before: &State, call: &Call, after: &State, expected: Answer, lengths: (usize, usize)) {
+    let mut record = resized(&numbers(&before.machine), lengths.0);
+    let mut answer = resized(&[5, 6, 7], lengths.1);
+    let mut tables = before.clone();
+    lend(
+        call,
+        Lent {
+            record: &mut record,
+            marks: &mut tables.marks,
+            words: &mut tables.words,
+            bitmap: &mut tables.bitmap,
+            answer: &mut answer,
+        },
+    );
+    let is_made = lengths.0 >= Machine::NUMBERS && lengths.1 >= 3;
+    let state = if is_made { after } else { before };
+    assert_eq!(record, resized(&numbers(&state.machine), lengths.0), "{call:?} {lengths:?}");
+    let written = match lengths {
+        (_, 0..=2) => [5, 6, 7],
+        (0..=27, _) => [1, 0, 0],
+        _ => [expected.refusal, expected.first, expected.second],
+    };
+    assert_eq!(answer, resized(&written, lengths.1), "{call:?} {lengths:?}");
+    assert!(tables.marks == state.marks && tables.words == state.words && tables.bitmap == state.bitmap);
+}
+
+#[test]
+fn records_and_answers_of_any_length() {
+    let mut counts = Counts::new();
+    run(200, 20_000, &mut |before, call, after, expected| {
+        let seen = counts.entry((call.kind(), expected.refusal)).or_default();
+        *seen += 1;
+        if *seen > 3 {
+            return;
+        }
+        for record in (0..=31).chain([100]) {
+            for answer in 0..=5 {
+                check_lengths(before, call, after, expected, (record, answer));
+            }
+        }
+    });
+    assert!(counts.len() > 60, "{counts:?}");
+}

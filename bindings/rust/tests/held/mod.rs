@@ -1,0 +1,65 @@
+//! The library's machine with tables of its own, held against the reference's state.
+
+use reference::{Call, State};
+use szk::{Answer, Machine, Request, Tables};
+
+pub struct Held {
+    pub machine: Machine,
+    pub marks: Vec<u32>,
+    pub words: Vec<u64>,
+    pub bitmap: Vec<u64>,
+}
+
+/// The numbers of a record, in the order of szk.h.
+pub fn numbers(machine: &reference::Machine) -> [u64; Machine::NUMBERS] {
+    let mut numbers = [0; Machine::NUMBERS];
+    numbers[..4].copy_from_slice(&[machine.base, machine.frames, machine.order, machine.declared]);
+    for (area, place) in machine.areas.iter().zip(numbers[4..].chunks_mut(3)) {
+        place.copy_from_slice(&[area.base, area.count, area.order]);
+    }
+    numbers
+}
+
+impl Held {
+    pub fn of(state: &State) -> Held {
+        Held {
+            machine: Machine { numbers: numbers(&state.machine) },
+            marks: state.marks.clone(),
+            words: state.words.clone(),
+            bitmap: state.bitmap.clone(),
+        }
+    }
+
+    pub fn make(&mut self, call: &Call) -> Answer {
+        let mut t = Tables { marks: &mut self.marks, words: &mut self.words, bitmap: &mut self.bitmap };
+        let (m, t) = (&mut self.machine, &mut t);
+        match call {
+            Call::Boot { base, frames, order, text } => m.boot(t, *base, *frames, *order, text),
+            Call::PutMovable { name } => m.put_movable(t, *name),
+            Call::PutFixed { name } => m.put_fixed(t, *name),
+            Call::Drop { name } => m.drop_page(t, *name),
+            Call::Pin { name } => m.pin(t, *name),
+            Call::Unpin { name } => m.unpin(t, *name),
+            Call::Store { name, word } => m.store(t, *name, *word),
+            Call::Read { name } => m.read(t, *name),
+            Call::Grant { area, count, align } => m.grant(t, *area, *count, *align),
+            Call::Release { area, frame, count } => m.release(t, *area, *frame, *count),
+            Call::DeviceStore { frame, word } => m.device_store(t, *frame, *word),
+            Call::DeviceRead { frame } => m.device_read(t, *frame),
+            Call::Declare(r) => m.declare(t, &request(r)),
+        }
+    }
+
+    /// The answer, the record and all three tables are the reference's.
+    pub fn agrees(&self, answer: Answer, state: &State, expected: reference::Answer) -> bool {
+        (answer.refusal, answer.first, answer.second) == (expected.refusal, expected.first, expected.second)
+            && self.machine.numbers == numbers(&state.machine)
+            && self.marks == state.marks
+            && self.words == state.words
+            && self.bitmap == state.bitmap
+    }
+}
+
+fn request(r: &reference::Request) -> Request {
+    Request { base: r.base, size: r.size, limit: r.limit, alignment: r.alignment, order: r.order, fixed: r.fixed }
+}

@@ -1,0 +1,70 @@
+//! The wrapper as a caller uses it.
+
+use szk::{refusal, Answer, Area, Machine, Request, Tables};
+
+fn answer(refusal: u64, first: u64, second: u64) -> Answer {
+    Answer { refusal, first, second }
+}
+
+/// Calls `on` with a machine of 32 frames from frame 4 and blocks of 4, its areas declared by the text.
+fn booted(text: &[u8], on: impl FnOnce(&mut Machine, &mut Tables)) {
+    let (mut marks, mut words, mut bitmap) = (vec![9; 32], vec![9; 32], [9; 2]);
+    let mut t = Tables { marks: &mut marks, words: &mut words, bitmap: &mut bitmap };
+    let mut machine = Machine::fresh();
+    assert_eq!(machine.boot(&mut t, 4, 32, 2, text), answer(0, 0, 0));
+    on(&mut machine, &mut t);
+}
+
+#[test]
+fn a_fresh_record_is_refused() {
+    let mut machine = Machine::fresh();
+    let mut t = Tables { marks: &mut [], words: &mut [], bitmap: &mut [] };
+    assert_eq!(machine.read(&mut t, 7), answer(refusal::WRONG_SHAPE, 0, 0));
+    assert_eq!(machine.boot(&mut t, 4, 32, 2, b""), answer(refusal::WRONG_SHAPE, 0, 0));
+    assert_eq!(machine, Machine::fresh());
+}
+
+#[test]
+fn a_text_and_a_request_declare_the_same_area() {
+    let area = Area { base: 8, count: 16, order: 0 };
+    booted(b"camera=64K@32768", |machine, t| {
+        assert_eq!((machine.base(), machine.frames(), machine.order(), machine.declared()), (4, 32, 2, 1));
+        assert_eq!(machine.areas()[0], area);
+        assert_eq!(t.marks, [0; 32]);
+    });
+    booted(b"", |machine, t| {
+        let request = Request { base: 32_768, size: 65_536, fixed: true, ..Request::default() };
+        assert_eq!(machine.declare(t, &request), answer(0, 8, 16));
+        assert_eq!(machine.areas()[0], area);
+    });
+}
+
+#[test]
+fn a_refused_text_names_its_place() {
+    let (mut marks, mut words) = ([1; 32], [1; 32]);
+    let mut t = Tables { marks: &mut marks, words: &mut words, bitmap: &mut [] };
+    let mut machine = Machine::fresh();
+    assert_eq!(machine.boot(&mut t, 4, 32, 2, b"a=1M;a=1M"), answer(refusal::NAME_REPEATED, 5, 0));
+    assert_eq!(machine.boot(&mut t, 4, 32, 2, b"a=1"), answer(refusal::BITMAP_TOO_SHORT, 0, 0));
+    assert_eq!((marks, words), ([1; 32], [1; 32]));
+}
+
+#[test]
+fn a_grant_moves_pages_out() {
+    booted(b"camera=64K@32768", |machine, t| {
+        for name in 1..=18 {
+            machine.put_movable(t, name);
+        }
+        assert_eq!(machine.grant(t, 0, 1, 0), answer(refusal::NO_TARGET, 0, 0));
+        assert_eq!(machine.pin(t, 17), answer(0, 0, 0));
+        assert_eq!(machine.store(t, 18, 99), answer(0, 0, 0));
+        assert_eq!(machine.drop_page(t, 1), answer(0, 0, 0));
+        assert_eq!(machine.grant(t, 0, 1, 0), answer(0, 9, 1));
+        assert_eq!(machine.read(t, 18), answer(0, 4, 99));
+        assert_eq!(machine.device_store(t, 9, 5), answer(0, 0, 0));
+        assert_eq!(machine.device_read(t, 9), answer(0, 5, 0));
+        assert_eq!(machine.release(t, 0, 9, 1), answer(0, 0, 0));
+        assert_eq!(machine.unpin(t, 17), answer(0, 0, 0));
+        assert_eq!(machine.put_fixed(t, 30), answer(refusal::NO_FRAME, 0, 0));
+    });
+}

@@ -1,0 +1,34 @@
+-- What a caller can rely on besides the contracts: the layout loses nothing, a refusal changes nothing, and each call is given the record that
+-- the last one returned. Proved in `proofs/ReadBack.antt`, `proofs/Refusals.antt` and `proofs/NextRecord.antt`.
+use Prim.Native.Nat.{ℕ, _≤_}
+use mathlib.Core.Logic.{_≢_}
+use mathlib.Core.Path.{_≡_}
+use mathlib.Core.List.{List, _++_}
+use lib.ListN.{length, getD, take}
+use Rattle.rules.specs.Record.{Machine}
+use Rattle.rules.specs.Limits.{mostAreas}
+use Rattle.rules.specs.Calls.{Call, perform}
+use Rattle.szk.specs.Layout.{recordLength, answerLength, recordOf, numbersOf}
+use Rattle.szk.specs.Exported.{Lent, exported}
+
+-- the numbers of a record, whatever stands after them, are read as that record
+abbrev pub ReadBack : Type 0
+ReadBack = (m : Machine) (rest : List ℕ) → length (m .areas) ≡ mostAreas → recordOf (numbersOf m ++ rest) ≡ m
+
+-- a record that is read has the numbers that it was read from
+abbrev pub WrittenBack : Type 0
+WrittenBack = (numbers : List ℕ) → recordLength ≤ length numbers → numbersOf (recordOf numbers) ≡ take recordLength numbers
+
+-- a call whose answer is a refusal has changed no number of the record and no table
+abbrev pub RefusalKeeps : Type 0
+RefusalKeeps =
+    (call : Call) (l : Lent) →
+    getD (exported call l .answer) 0 0 ≢ 0 → (exported call l .numbers ≡ l .numbers) × (exported call l .tables ≡ l .tables)
+
+-- after a call the numbers hold the record that the call returned, which is the record that the next call is made on
+abbrev pub NextRecord : Type 0
+NextRecord =
+    (call : Call) (l : Lent) →
+    answerLength ≤ length (l .answer) →
+    recordLength ≤ length (l .numbers) →
+    recordOf (exported call l .numbers) ≡ perform call (recordOf (l .numbers)) (l .tables) .machine

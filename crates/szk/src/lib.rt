@@ -1,0 +1,10 @@
+// The page manager's calls as exported functions, one for each, for programs in other languages to link.
+//
+// A caller lends five slices, each a pointer and a length: the machine record as 28 numbers, the marks, the content words and the bitmap
+// words, and three numbers for the answer, which are the refusal and two more. Any contents and any lengths are taken. With no room for an
+// answer nothing is done, and a record that is too short is answered as the wrong shape.
+mod devices;
+mod exchange;
+mod layout;
+mod pages;
+mod setup;

@@ -1,0 +1,108 @@
+/*
+ * A short day of one machine, through szk.h: boot, an area, a grant that makes a page move, and
+ * what is refused. Prints a line for each call: its name, the refusal and the answer's numbers.
+ */
+#include "szk.h"
+
+#include <inttypes.h>
+#include <stdio.h>
+
+enum { FRAMES = 32, BITMAP_WORDS = 1 };
+
+/* A machine with its tables. All zeros is a fresh one. */
+struct station {
+    uint64_t record[SZK_RECORD_NUMBERS];
+    uint32_t marks[FRAMES];
+    uint64_t words[FRAMES];
+    uint64_t bitmap[BITMAP_WORDS];
+    uint64_t answer[SZK_ANSWER_NUMBERS];
+};
+
+/* The five slices that every call is lent. */
+#define LENT(s)                                                                           \
+    (s)->record, SZK_RECORD_NUMBERS, (s)->marks, FRAMES, (s)->words, FRAMES, (s)->bitmap, \
+        BITMAP_WORDS, (s)->answer, SZK_ANSWER_NUMBERS
+
+static void print_answer(const char *call, const struct station *s)
+{
+    printf("%-18s %2" PRIu64 " %5" PRIu64 " %6" PRIu64 "\n", call, s->answer[SZK_ANSWER_REFUSAL],
+           s->answer[SZK_ANSWER_FIRST], s->answer[SZK_ANSWER_SECOND]);
+}
+
+/* P 4, n 32, b 2, and a fixed area of 16 frames from frame 8. */
+static void set_up(struct station *s)
+{
+    szk_read(NULL, 0, NULL, 0, NULL, 0, NULL, 0, s->answer, SZK_ANSWER_NUMBERS, 7);
+    print_answer("nothing lent", s);
+    szk_put_movable(LENT(s), 7);
+    print_answer("put 7 before boot", s);
+    szk_boot(LENT(s), 4, FRAMES, 2, NULL, 0);
+    print_answer("boot", s);
+    szk_declare(LENT(s), 32768, 65536, 0, 0, 0, 1);
+    print_answer("declare", s);
+}
+
+static void use_device(struct station *s)
+{
+    szk_grant(LENT(s), 0, 3, 0);
+    print_answer("grant 3", s);
+    szk_device_store(LENT(s), 9, 1234);
+    print_answer("device store 9", s);
+    szk_device_read(LENT(s), 9);
+    print_answer("device read 9", s);
+    szk_release(LENT(s), 0, 8, 2);
+    print_answer("release 2 of 3", s);
+    szk_release(LENT(s), 0, 8, 3);
+    print_answer("release 3", s);
+}
+
+static void use_pages(struct station *s)
+{
+    szk_put_movable(LENT(s), 7);
+    print_answer("put 7", s);
+    szk_store(LENT(s), 7, 99);
+    print_answer("store 7", s);
+    szk_pin(LENT(s), 7);
+    print_answer("pin 7", s);
+    szk_store(LENT(s), 7, 100);
+    print_answer("store 7, pinned", s);
+    szk_drop(LENT(s), 7);
+    print_answer("drop 7, pinned", s);
+    szk_unpin(LENT(s), 7);
+    print_answer("unpin 7", s);
+    szk_read(LENT(s), 7);
+    print_answer("read 7", s);
+}
+
+/* Fills the ordinary frames, so that a page lives in the area; then makes room for it to leave. */
+static void move_a_page(struct station *s)
+{
+    for (uint64_t name = 101; name <= 115; name++) {
+        szk_put_fixed(LENT(s), name);
+    }
+    print_answer("put fixed 115", s);
+    szk_put_fixed(LENT(s), 116);
+    print_answer("put fixed 116", s);
+    szk_put_movable(LENT(s), 8);
+    print_answer("put 8", s);
+    szk_grant(LENT(s), 0, 16, 0);
+    print_answer("grant 16", s);
+    szk_drop(LENT(s), 110);
+    print_answer("drop 110", s);
+    szk_grant(LENT(s), 0, 16, 0);
+    print_answer("grant 16", s);
+    szk_read(LENT(s), 8);
+    print_answer("read 8", s);
+}
+
+int main(void)
+{
+    static struct station station;
+
+    printf("%-18s %2s %5s %6s\n", "call", "no", "first", "second");
+    set_up(&station);
+    use_device(&station);
+    use_pages(&station);
+    move_a_page(&station);
+    return 0;
+}

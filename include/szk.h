@@ -1,0 +1,287 @@
+/*
+ * szk.h: the page manager's calls, for C.
+ *
+ * Link with target/staticlib/libszk.a, which `rt staticlib szk` proves and writes. The rules are
+ * those of document 01; what is said here is a summary of them for a caller.
+ *
+ * A machine is a record of SZK_RECORD_NUMBERS numbers and three tables, all of them the caller's.
+ * Every call is lent the record, the tables and a place for its answer, each as a pointer and a
+ * length in entries:
+ *
+ *   record   the machine record; all zeros is a fresh one, which every call but szk_boot refuses
+ *   marks    a mark for each frame: 8 x field + kind
+ *   words    a content word for each frame
+ *   bitmap   the bitmap words of all areas, each area's after the previous area's last
+ *   answer   where the answer goes: a refusal's number, or SZK_DONE, and two numbers
+ *
+ * Any numbers, any table contents and any lengths are taken; a refused call changes nothing but
+ * the answer. What the caller owes is C's own rule: each pointer is to as many entries as its
+ * length says (with a length of 0 it may be NULL), and no two of the slices overlap.
+ *
+ *   - An answer shorter than SZK_ANSWER_NUMBERS: the call does nothing at all.
+ *   - Otherwise, a record shorter than SZK_RECORD_NUMBERS: SZK_WRONG_SHAPE, 0, 0.
+ *   - Numbers after those of the record and of the answer are kept.
+ *
+ * A refusal answers its number and two zeros; for szk_boot its number, a place and a zero. Each
+ * call below lists its refusals in the order in which they are checked. A call that names no
+ * answer answers 0, 0. Calls keep no state of their own, so calls on different machines may run
+ * at the same time.
+ *
+ * The shape is right when P, n, b and the number of areas keep to the limits; marks and words have
+ * n entries; each area has count at least 1, k at most b, first and count multiples of 2^b, and
+ * lies in memory; areas are disjoint; the bitmap slice has at least the words needed. A frame in
+ * no area is ordinary. When a name stands twice, the lowest frame is meant.
+ */
+#ifndef SZK_H
+#define SZK_H
+
+#include <stddef.h>
+#include <stdint.h>
+
+#ifdef __cplusplus
+extern "C" {
+#endif
+
+/* ---- the record ---- */
+
+#define SZK_RECORD_NUMBERS 28
+#define SZK_RECORD_BASE 0     /* P: the first physical frame */
+#define SZK_RECORD_FRAMES 1   /* n: how many frames there are */
+#define SZK_RECORD_ORDER 2    /* b: a block is 2^b frames */
+#define SZK_RECORD_DECLARED 3 /* how many area records are in use */
+#define SZK_RECORD_AREAS 4    /* area i begins at SZK_RECORD_AREAS + SZK_AREA_NUMBERS * i */
+
+#define SZK_AREA_NUMBERS 3
+#define SZK_AREA_BASE 0  /* the area's first physical frame */
+#define SZK_AREA_COUNT 1 /* its count of frames */
+#define SZK_AREA_ORDER 2 /* k: a bit of its bitmap stands for 2^k frames */
+
+/* ---- the answer ---- */
+
+#define SZK_ANSWER_NUMBERS 3
+#define SZK_ANSWER_REFUSAL 0
+#define SZK_ANSWER_FIRST 1
+#define SZK_ANSWER_SECOND 2
+
+/* ---- limits ---- */
+
+#define SZK_PAGE_BYTES UINT64_C(4096)
+#define SZK_LEAST_FRAMES UINT64_C(1)             /* n */
+#define SZK_MOST_FRAMES UINT64_C(65536)          /* n */
+#define SZK_LEAST_BASE UINT64_C(1)               /* P */
+#define SZK_MOST_END UINT64_C(68719476736)       /* P + n: 2^36 */
+#define SZK_MOST_ORDER UINT64_C(10)              /* b */
+#define SZK_MOST_AREAS UINT64_C(8)
+#define SZK_LEAST_NAME UINT64_C(1)
+#define SZK_MOST_NAME UINT64_C(536870911)        /* 2^29 - 1 */
+#define SZK_MOST_ALIGNMENT_ORDER UINT64_C(16)    /* of a grant */
+#define SZK_MOST_BYTES UINT64_C(281474976710656) /* an amount of bytes: 2^48 */
+#define SZK_MOST_TEXT UINT64_C(1024)             /* bytes of a regions text */
+
+/* ---- marks: 8 x field + kind ---- */
+
+#define SZK_MARK_KINDS UINT32_C(8)
+#define SZK_FREE UINT32_C(0)        /* the field is ignored; written as 0 */
+#define SZK_MOVABLE UINT32_C(1)     /* the field is the page's name */
+#define SZK_PINNED UINT32_C(2)      /* the field is the page's name */
+#define SZK_FIXED UINT32_C(3)       /* the field is the page's name */
+#define SZK_GRANT_FIRST UINT32_C(4) /* the first frame of a grant; the field is its count */
+#define SZK_GRANT_LATER UINT32_C(5) /* a later frame of a grant; written as 5 */
+/* Kinds 6 and 7 are unused and never movable. */
+
+/* ---- refusals ---- */
+
+#define SZK_DONE UINT64_C(0)               /* not refused */
+#define SZK_WRONG_SHAPE UINT64_C(1)        /* wrong shape of the record or the tables */
+#define SZK_OUT_OF_RANGE UINT64_C(2)       /* an argument is outside its range */
+#define SZK_NOT_LIVE UINT64_C(3)           /* no live page or grant there */
+#define SZK_NAME_LIVE UINT64_C(4)          /* page name already live */
+#define SZK_KIND_FORBIDS UINT64_C(5)       /* the page's kind does not allow it */
+#define SZK_NO_FRAME UINT64_C(6)           /* no frame for a put */
+#define SZK_NO_RUN UINT64_C(7)             /* no grantable run */
+#define SZK_NO_TARGET UINT64_C(8)          /* no target for its pages */
+#define SZK_RELEASE_DISAGREES UINT64_C(9)  /* release disagrees with the grant */
+#define SZK_AREAS_FULL UINT64_C(10)        /* eight areas already */
+#define SZK_BIT_ABOVE_BLOCK UINT64_C(11)   /* k above b */
+#define SZK_RANGE_NOT_FREE UINT64_C(12)    /* fixed range not free */
+#define SZK_NO_PLACE UINT64_C(13)          /* no place for the area */
+#define SZK_BITMAP_TOO_SHORT UINT64_C(14)  /* bitmap slice too short */
+#define SZK_UNEXPECTED_BYTE UINT64_C(20)   /* text: a byte, or the end, that cannot continue */
+#define SZK_BAD_AMOUNT UINT64_C(21)        /* text: above 2^48, size 0, or a wrong alignment */
+#define SZK_NAME_REPEATED UINT64_C(22)     /* text: at a repeated name */
+#define SZK_TOO_MANY_REGIONS UINT64_C(23)  /* text: any byte after the eighth region's ';' */
+#define SZK_TEXT_TOO_LONG UINT64_C(24)     /* text: more than 1,024 bytes; the place is 1,024 */
+#define SZK_UNKNOWN_ALLOCATOR UINT64_C(25) /* text: at an allocator other than "ff" */
+
+/* ---- boot and area declaration ---- */
+
+/*
+ * Boots a machine of `frames` frames from physical frame `base`, with blocks of 2^order frames, and
+ * declares the text's regions in turn as if every frame were free. The record given is ignored. All
+ * three tables become zero, spare bitmap words too, and unused area records are zero.
+ *
+ * A region is NAME=SIZE, then optionally @START, /ALIGNMENT and :ff, in that order; ';' stands
+ * between regions, as in "camera=64K@32768;signer=1M". A nonzero start is fixed. Empty text is no
+ * regions.
+ *
+ * Refused, with a place:
+ *   SZK_WRONG_SHAPE (place 0) if base, frames, order or the length of marks or words is wrong;
+ *   SZK_TEXT_TOO_LONG (place 1,024);
+ *   SZK_UNEXPECTED_BYTE, SZK_BAD_AMOUNT, SZK_NAME_REPEATED, SZK_TOO_MANY_REGIONS or
+ *     SZK_UNKNOWN_ALLOCATOR, whichever comes first from left to right, at its offset in the text;
+ *   a refusal of szk_declare, with the region's index, from 0, as the place.
+ */
+void szk_boot(uint64_t *record, size_t record_length, uint32_t *marks, size_t marks_length,
+              uint64_t *words, size_t words_length, uint64_t *bitmap, size_t bitmap_length,
+              uint64_t *answer, size_t answer_length,
+              uint64_t base, uint64_t frames, uint64_t order,
+              const uint8_t *text, size_t text_length);
+
+/*
+ * Declares an area. The first four numbers are bytes; a bit of the area's bitmap stands for 2^order
+ * frames. With A = max(alignment, 4,096 x 2^b), base and size round up to A and limit rounds down.
+ * Base 0 then cancels fixed. A limit that is now 0, or past the end of memory, becomes the end.
+ *
+ * With `fixed` not 0 the area begins at base, and limit isn't consulted. Otherwise it takes the
+ * highest multiple of A at or above base whose range ends at or below limit, lies in memory, and
+ * holds only free ordinary frames. The new bitmap words become 0. Answers first frame, count.
+ *
+ * Refused:
+ *   SZK_WRONG_SHAPE;
+ *   SZK_AREAS_FULL;
+ *   SZK_OUT_OF_RANGE if an amount passes 2^48, size is 0, or alignment is neither 0 nor a power of
+ *     two;
+ *   SZK_BIT_ABOVE_BLOCK if order is above b;
+ *   SZK_BITMAP_TOO_SHORT;
+ *   fixed: SZK_NO_PLACE if outside memory, SZK_RANGE_NOT_FREE if some frame is not free or is in an
+ *     area; otherwise: SZK_NO_PLACE if there is no such multiple.
+ */
+void szk_declare(uint64_t *record, size_t record_length, uint32_t *marks, size_t marks_length,
+                 uint64_t *words, size_t words_length, uint64_t *bitmap, size_t bitmap_length,
+                 uint64_t *answer, size_t answer_length,
+                 uint64_t base, uint64_t size, uint64_t limit, uint64_t alignment,
+                 uint64_t order, uint64_t fixed);
+
+/* ---- page calls ---- */
+
+/*
+ * Puts a movable page on the lowest free ordinary frame, or with none left on the lowest free area
+ * frame. Its word becomes 0. Answers frame, 0.
+ *
+ * Refused: SZK_WRONG_SHAPE; SZK_OUT_OF_RANGE if name is not 1 to 536,870,911; SZK_NAME_LIVE;
+ * SZK_NO_FRAME.
+ */
+void szk_put_movable(uint64_t *record, size_t record_length, uint32_t *marks, size_t marks_length,
+                     uint64_t *words, size_t words_length, uint64_t *bitmap, size_t bitmap_length,
+                     uint64_t *answer, size_t answer_length, uint64_t name);
+
+/*
+ * Puts a fixed page on the lowest free ordinary frame, never on an area frame. Its word becomes 0.
+ * Answers frame, 0.
+ *
+ * Refused: SZK_WRONG_SHAPE; SZK_OUT_OF_RANGE; SZK_NAME_LIVE; SZK_NO_FRAME.
+ */
+void szk_put_fixed(uint64_t *record, size_t record_length, uint32_t *marks, size_t marks_length,
+                   uint64_t *words, size_t words_length, uint64_t *bitmap, size_t bitmap_length,
+                   uint64_t *answer, size_t answer_length, uint64_t name);
+
+/*
+ * Drops a page: its mark and word become 0.
+ *
+ * Refused: SZK_WRONG_SHAPE; SZK_OUT_OF_RANGE; SZK_NOT_LIVE; SZK_KIND_FORBIDS if pinned.
+ */
+void szk_drop(uint64_t *record, size_t record_length, uint32_t *marks, size_t marks_length,
+              uint64_t *words, size_t words_length, uint64_t *bitmap, size_t bitmap_length,
+              uint64_t *answer, size_t answer_length, uint64_t name);
+
+/*
+ * Pins a movable page: it is neither moved, nor rewritten, nor dropped until it is unpinned.
+ *
+ * Refused: SZK_WRONG_SHAPE; SZK_OUT_OF_RANGE; SZK_NOT_LIVE; SZK_KIND_FORBIDS unless movable.
+ */
+void szk_pin(uint64_t *record, size_t record_length, uint32_t *marks, size_t marks_length,
+             uint64_t *words, size_t words_length, uint64_t *bitmap, size_t bitmap_length,
+             uint64_t *answer, size_t answer_length, uint64_t name);
+
+/*
+ * Makes a pinned page movable again.
+ *
+ * Refused: SZK_WRONG_SHAPE; SZK_OUT_OF_RANGE; SZK_NOT_LIVE; SZK_KIND_FORBIDS unless pinned.
+ */
+void szk_unpin(uint64_t *record, size_t record_length, uint32_t *marks, size_t marks_length,
+               uint64_t *words, size_t words_length, uint64_t *bitmap, size_t bitmap_length,
+               uint64_t *answer, size_t answer_length, uint64_t name);
+
+/*
+ * Stores a page's word.
+ *
+ * Refused: SZK_WRONG_SHAPE; SZK_OUT_OF_RANGE; SZK_NOT_LIVE; SZK_KIND_FORBIDS if pinned.
+ */
+void szk_store(uint64_t *record, size_t record_length, uint32_t *marks, size_t marks_length,
+               uint64_t *words, size_t words_length, uint64_t *bitmap, size_t bitmap_length,
+               uint64_t *answer, size_t answer_length, uint64_t name, uint64_t word);
+
+/*
+ * Reads a page. Answers frame, word.
+ *
+ * Refused: SZK_WRONG_SHAPE; SZK_OUT_OF_RANGE; SZK_NOT_LIVE.
+ */
+void szk_read(uint64_t *record, size_t record_length, uint32_t *marks, size_t marks_length,
+              uint64_t *words, size_t words_length, uint64_t *bitmap, size_t bitmap_length,
+              uint64_t *answer, size_t answer_length, uint64_t name);
+
+/* ---- device calls ---- */
+
+/*
+ * Grants `count` contiguous frames of an area. A candidate starts on a bit, its physical frame is a
+ * multiple of 2^order, its ceil(count / 2^k) bits lie in the area and are clear. It is grantable
+ * when each of its count frames is free or movable. The lowest grantable candidate is taken. Its
+ * movable pages, ascending, go to the lowest free ordinary frames, ascending, with mark and word.
+ * Then the first mark is 8 x count + 4, the others 5, the words 0, the bits set. Frames after the
+ * count in the last bit stay usable by movable pages. Answers frame, number of pages moved.
+ *
+ * Refused: SZK_WRONG_SHAPE; SZK_OUT_OF_RANGE for an unknown area, count 0 or order above 16;
+ * SZK_NO_RUN if there is no grantable candidate; SZK_NO_TARGET if the lowest one's movable pages
+ * outnumber the free ordinary frames (no later candidate is tried).
+ */
+void szk_grant(uint64_t *record, size_t record_length, uint32_t *marks, size_t marks_length,
+               uint64_t *words, size_t words_length, uint64_t *bitmap, size_t bitmap_length,
+               uint64_t *answer, size_t answer_length,
+               uint64_t area, uint64_t count, uint64_t order);
+
+/*
+ * Releases the grant of `count` frames from physical frame `frame`: the frames' marks and words
+ * become 0 and the grant's bits clear.
+ *
+ * Refused: SZK_WRONG_SHAPE; SZK_OUT_OF_RANGE for an unknown area, count 0, or a range not inside
+ * the area; SZK_NOT_LIVE if the frame is off a bit boundary or not of kind 4;
+ * SZK_RELEASE_DISAGREES if its field is not count or a later frame of the range is not of kind 5.
+ */
+void szk_release(uint64_t *record, size_t record_length, uint32_t *marks, size_t marks_length,
+                 uint64_t *words, size_t words_length, uint64_t *bitmap, size_t bitmap_length,
+                 uint64_t *answer, size_t answer_length,
+                 uint64_t area, uint64_t frame, uint64_t count);
+
+/*
+ * Stores the word of a granted frame, by physical frame.
+ *
+ * Refused: SZK_WRONG_SHAPE; SZK_OUT_OF_RANGE outside memory; SZK_NOT_LIVE unless of kind 4 or 5.
+ */
+void szk_device_store(uint64_t *record, size_t record_length, uint32_t *marks, size_t marks_length,
+                      uint64_t *words, size_t words_length, uint64_t *bitmap, size_t bitmap_length,
+                      uint64_t *answer, size_t answer_length, uint64_t frame, uint64_t word);
+
+/*
+ * Reads the word of a granted frame, by physical frame. Answers word, 0.
+ *
+ * Refused: SZK_WRONG_SHAPE; SZK_OUT_OF_RANGE outside memory; SZK_NOT_LIVE unless of kind 4 or 5.
+ */
+void szk_device_read(uint64_t *record, size_t record_length, uint32_t *marks, size_t marks_length,
+                     uint64_t *words, size_t words_length, uint64_t *bitmap, size_t bitmap_length,
+                     uint64_t *answer, size_t answer_length, uint64_t frame);
+
+#ifdef __cplusplus
+}
+#endif
+
+#endif
