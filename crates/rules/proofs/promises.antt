@@ -5,3 +5,4 @@ pub mod Pages
 pub mod Refusals
 pub mod Runs
 pub mod Taken
+pub mod Unchanged

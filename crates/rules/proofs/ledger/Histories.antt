@@ -4,24 +4,18 @@ use native.Mathlib.Omega.{arith}
 use mathlib.Core.Bool.{Bool, true, false, not, _&&_, _||_}
 use mathlib.Core.List.{List, [], _∷_}
 use mathlib.Core.Path.{_≡_, refl, sym, ap, subst, _∙_}
-use borrow.Author.Tests.{not-true}
+use borrow.Author.Tests.{not-true, eqb-false}
 use Rattle.search.specs.Choice.{if_then_else_}
 use Rattle.search.proofs.Bools.{by-cases, clash, and-left, and-right}
 use Rattle.frames.specs.declared.Place.{Place}
 use Rattle.frames.specs.Tables.{Tables}
 use Rattle.rules.specs.Record.{Machine, frameAt}
-use Rattle.rules.specs.Outcomes.{Outcome, Check, checked}
-use Rattle.regions.specs.Reading.{Read, gives, refuses}
 use Rattle.rules.specs.PageCalls.{pageAt}
-use Rattle.rules.specs.PageCalls as Page
-use Rattle.rules.specs.DeviceCalls as Device
-use Rattle.rules.specs.Declare as Declare
-use Rattle.rules.specs.Boot as Boot
 use Rattle.rules.specs.Calls.{Call, putMovable, putFixed, dropPage, pinPage, unpinPage, storePage, readPage, grant, release, deviceStore, deviceRead, declare, boot, perform}
 use Rattle.rules.specs.ledger.Ledger.{Ledger, fed}
 use Rattle.rules.specs.ledger.Runs.{Item, onOwn, onOther, callOf, State, isRefused, outcomeIn, next, after, isBoot, mayPass, admitted, frameOfPage, isPinOf, lastPinFrame}
 use Rattle.rules.specs.ledger.Invariant.{Sound}
-use Rattle.rules.proofs.CheckCases.{numbered, checked-cases}
+use Rattle.rules.proofs.promises.Unchanged.{refusal-changes-nothing}
 use Rattle.rules.proofs.ledger.Kept.{Kept}
 use Rattle.rules.proofs.ledger.PutCalls.{put-kept}
 use Rattle.rules.proofs.ledger.PageCalls.{drop-kept, pin-kept, unpin-kept, store-kept, read-kept}
@@ -54,31 +48,8 @@ module _ (m : Machine) (t : Tables) (l : Ledger) (s : Sound m t l) where
   perform-kept (boot base frames order text) refused = boot-kept m base frames order text t l s (refused refl)
 
 -- a refused call returns the record that it was given
-same-machine :
-    (m : Machine) (t : Tables) (cs : List Check) (o : Outcome) →
-    numbered cs ≡ true → isRefused o ≡ false → isRefused (checked m t cs o) ≡ true → checked m t cs o .machine ≡ m
-same-machine m t cs o nums accepted =
-    checked-cases (λ o. isRefused o ≡ true → o .machine ≡ m) m t cs o nums (λ n h e. refl) (λ _ e. clash (isRefused o) e accepted)
-
 refused-machine : (m : Machine) (t : Tables) (c : Call) → isRefused (perform c m t) ≡ true → perform c m t .machine ≡ m
-unfolding Page.putPage Page.dropPage Page.changeKind Page.storePage Page.readPage Device.grant Device.release Device.deviceStore Device.deviceRead Declare.declare Boot.boot
-refused-machine m t (putMovable name) = same-machine m t _ _ refl refl
-refused-machine m t (putFixed name) = same-machine m t _ _ refl refl
-refused-machine m t (dropPage name) = same-machine m t _ _ refl refl
-refused-machine m t (pinPage name) = same-machine m t _ _ refl refl
-refused-machine m t (unpinPage name) = same-machine m t _ _ refl refl
-refused-machine m t (storePage name word) = same-machine m t _ _ refl refl
-refused-machine m t (readPage name) = same-machine m t _ _ refl refl
-refused-machine m t (grant area count order) = same-machine m t _ _ refl refl
-refused-machine m t (release area f count) = same-machine m t _ _ refl refl
-refused-machine m t (deviceStore f word) = same-machine m t _ _ refl refl
-refused-machine m t (deviceRead f) = same-machine m t _ _ refl refl
-refused-machine m t (declare request) = same-machine m t _ _ refl refl
-refused-machine m t (boot base frames order text) = refused-boot (Boot.bootRecord base frames order text t)
-  where
-    refused-boot : (r : Read Machine) → isRefused (Boot.booted m t r) ≡ true → Boot.booted m t r .machine ≡ m
-    refused-boot (gives new at) e = clash false e refl
-    refused-boot (refuses number at) e = refl
+refused-machine m t c e = refusal-changes-nothing c m t (eqb-false (perform c m t .answer .refusal) 0 (not-true _ e)) .0
 
 -- ---- one item
 

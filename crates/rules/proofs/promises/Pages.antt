@@ -8,22 +8,22 @@ use mathlib.Core.List.{List}
 use lib.Dec.{eqb}
 use lib.ListN.{length, set, length-set}
 use lib.Seq.{set-getD, getD-set-same}
-use borrow.Author.Tests.{lt-ltb, ltb-true, ltb-false, eqb-true}
+use borrow.Author.Tests.{ne-eqb, lt-ltb, ltb-true, ltb-false, eqb-true}
 use Rattle.search.specs.Search.{lowest}
 use Rattle.search.proofs.Bools.{by-cases, below-or-not, clash, and-left, and-right, and-both, or-left, or-right, not-flips}
 use Rattle.search.proofs.Lowest.{found-passes, found-low}
 use Rattle.answer.specs.Answers.{done}
 use Rattle.frames.specs.declared.Place.{Place}
 use Rattle.frames.specs.Units.{place}
-use Rattle.frames.specs.Marks.{isPageOf, movable}
+use Rattle.frames.specs.Marks.{kindOf, hasKind, isPageOf, movable, pinned}
 use Rattle.frames.specs.Tables.{Tables, tables, markAt, wordAt, setPage}
 use Rattle.rules.specs.Record.{Machine, frameAt, isOrdinary}
 use Rattle.rules.specs.Shape.{lengthsRight, shapeRight}
 use Rattle.rules.specs.Outcomes.{Outcome, outcome, Passed, end, next}
-use Rattle.rules.specs.PageCalls.{pageAt, isLive, putChecks, storeChecks, readChecks, isPlace, lowestPlace, isFree, freeOrdinary, freeInArea, putAt, putPage, dropPage, changeKind, storePage, readPage}
+use Rattle.rules.specs.PageCalls.{pageAt, isLive, pageHas, putChecks, dropChecks, changeChecks, storeChecks, readChecks, isPlace, lowestPlace, isFree, freeOrdinary, freeInArea, putAt, putPage, dropPage, changeKind, storePage, readPage}
 use Rattle.rules.proofs.Checks.{checked-passed}
 use Rattle.rules.proofs.Shapes.{shape-known}
-use Rattle.rules.specs.promises.Pages.{PageRefusals, FreeOrdinary, FreeInArea, Lowest, PutTakesLowest, Stands, FindsLowest, StoreThenRead}
+use Rattle.rules.specs.promises.Pages.{PageRefusals, FreeOrdinary, FreeInArea, Lowest, PutTakesLowest, Stands, FindsLowest, StoreThenRead, PinnedIsKept, PinnedPagesStay}
 use Rattle.rules.proofs.promises.Refusals.{refused-by-first}
 
 pub page-refusals : PageRefusals
@@ -201,3 +201,24 @@ pub store-then-read : StoreThenRead
 store-then-read m name word t accepted =
     let passed = page-refusals .store m name word t .passes accepted in
     rw (store-outcome m name word t passed) (read-stored m name word t passed)
+
+-- ---- pinned pages
+-- a page has one kind
+one-kind : (mark : ℕ) → hasKind pinned mark ≡ true → hasKind movable mark ≡ false
+one-kind mark e = ne-eqb (kindOf mark) movable (λ other. let is = eqb-true (kindOf mark) pinned e in omega arith)
+
+module _ (m : Machine) (t : Tables) (name : ℕ) (is-pinned : pageHas pinned m t name ≡ true) where
+  no-drop : Passed (dropChecks m name t) → ⊥
+  no-drop (next _ (next _ (next _ (next e end)))) = clash (pageHas pinned m t name) is-pinned e
+
+  no-pin : Passed (changeChecks movable m name t) → ⊥
+  no-pin (next _ (next _ (next _ (next e end)))) =
+      clash (pageHas movable m t name) (not-flips (pageHas movable m t name) e) (one-kind (markAt t (pageAt m t name)) is-pinned)
+
+pub pinned-pages-stay : PinnedPagesStay
+pinned-pages-stay m t name p =
+    record {
+      drop = λ done. no-drop m t name p (page-refusals .drop m name t .passes done);
+      store = λ word done. no-drop m t name p (page-refusals .store m name word t .passes done);
+      pin = λ done. no-pin m t name p (page-refusals .change movable pinned m name t .passes done);
+    }

@@ -6,11 +6,11 @@ use mathlib.Core.Bool.{Bool, true, false}
 use mathlib.Core.List.{List}
 use Rattle.answer.specs.Answers.{done}
 use Rattle.frames.specs.Units.{place}
-use Rattle.frames.specs.Marks.{isPageOf, movable, fixed}
+use Rattle.frames.specs.Marks.{isPageOf, movable, pinned, fixed}
 use Rattle.frames.specs.Tables.{Tables, markAt, wordAt}
 use Rattle.rules.specs.Record.{Machine, isOrdinary}
 use Rattle.rules.specs.Outcomes.{Outcome, Check, First, Passed, outcome, refuse}
-use Rattle.rules.specs.PageCalls.{pageAt, isLive, isFree, putPage, putChecks, dropPage, dropChecks, changeKind, changeChecks, storePage, storeChecks, readPage, readChecks}
+use Rattle.rules.specs.PageCalls.{pageAt, isLive, isFree, putPage, putChecks, dropPage, dropChecks, changeKind, changeChecks, pinPage, pageHas, storePage, storeChecks, readPage, readChecks}
 
 -- ---- A call is refused with exactly the first number of its list whose condition holds, and changes no table and no record when refused
 
@@ -80,3 +80,13 @@ StoreThenRead =
     let o = storePage m name word t in
     o .answer .refusal ≡ 0 →
     (readPage (o .machine) name (o .left) .answer .refusal ≡ 0) × (readPage (o .machine) name (o .left) .answer .second ≡ word)
+
+-- ---- A pinned page is neither dropped nor rewritten nor pinned again: the call is refused, and changes nothing
+
+pub record PinnedIsKept (m : Machine) (t : Tables) (name : ℕ) : Type 0 where
+  pub drop : dropPage m name t .answer .refusal ≢ 0
+  pub store : (word : ℕ) → storePage m name word t .answer .refusal ≢ 0
+  pub pin : pinPage m name t .answer .refusal ≢ 0
+
+abbrev pub PinnedPagesStay : Type 0
+PinnedPagesStay = (m : Machine) (t : Tables) (name : ℕ) → pageHas pinned m t name ≡ true → PinnedIsKept m t name
