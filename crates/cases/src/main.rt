@@ -1,16 +1,27 @@
 // Plays the cases of `data/` and compares what each gives with what is expected.
 //
 // A case NAME has its records in NAME.rec and the whole output, heading and last line included, in NAME.out. The names stand one a line in
-// cases.txt. Those in cuts.txt are played at every length, from no byte to all of them, and their outputs stand one after the other.
+// cases.txt. Those in cuts.txt are played at every length, from no byte to all of them, and their outputs stand one after the other. Those
+// in texts.txt have regions texts in NAME.txt, one a line.
 ghost use mathlib.Core.Path.{_≡_};
 ghost use Prim.Native.Nat.{_+_, _≤_};
 ghost use lib.ListN.{length};
 ghost use Rattle.cases.specs.Tallies.{Counted};
+
+mod texts;
+
 use libc::STDOUT_FILENO;
 use machine::Machine;
 use playback::Progress;
 use playback::Stop;
 use records::lines;
+
+// How a case is played: its records whole, or at every length; or its regions texts, one by one.
+enum Way {
+    Whole,
+    EveryLength,
+    Texts,
+}
 
 // How many cases were played, and how many of them gave something else than expected.
 struct Tally {
@@ -39,6 +50,16 @@ fn load_part(name: &[u8], ending: &[u8], buffer: &mut [u8]) -> usize
     let named = lines::put_bytes(&mut path, 0, name);
     let whole = lines::put_bytes(&mut path, named, ending);
     load(&path[0..whole], buffer)
+}
+
+// Reads what a case is given: texts, or records.
+fn load_given(name: &[u8], way: Way, buffer: &mut [u8]) -> usize
+    ensures { λ r. ⌜ r ≤ length (now (buffer .entry)) ⌝ }
+{
+    match way {
+        Way::Texts => load_part(name, b".txt", buffer),
+        _ => load_part(name, b".rec", buffer),
+    }
 }
 
 // The last line, by the reason that the records stopped. An output that is full has none.
@@ -97,6 +118,17 @@ fn play_from(bytes: &[u8], out: &mut [u8], from: usize) -> usize
     play(bytes, out, &mut marks, &mut words, &mut bitmap, text)
 }
 
+// What a case gives, and how long that is.
+fn play_case(bytes: &[u8], way: Way, out: &mut [u8]) -> usize
+    ensures { λ r. ⌜ r ≤ length (now (out .entry)) ⌝ }
+{
+    match way {
+        Way::Whole => play_from(bytes, out, bytes.len()),
+        Way::EveryLength => play_from(bytes, out, 0),
+        Way::Texts => texts::answer_texts(bytes, out),
+    }
+}
+
 // The first place where two texts differ; where one ends first, that is its end.
 fn first_difference(a: &[u8], b: &[u8]) -> usize {
     let mut i = 0;
@@ -139,12 +171,12 @@ fn unreadable(name: &[u8]) -> bool {
     false
 }
 
-// One case, played whole or at every length.
-fn run_case(name: &[u8], every: bool) -> bool {
+// One case.
+fn run_case(name: &[u8], way: Way) -> bool {
     let mut bytes = [0u8; 65536];
     let mut expected = [0u8; 65536];
     let mut out = [0u8; 65536];
-    let size = load_part(name, b".rec", &mut bytes);
+    let size = load_given(name, way, &mut bytes);
     if 65536 <= size {
         return unreadable(name);
     }
@@ -152,8 +184,7 @@ fn run_case(name: &[u8], every: bool) -> bool {
     if 65536 <= length {
         return unreadable(name);
     }
-    let from = if every { 0 } else { size };
-    let text = play_from(&bytes[0..size], &mut out, from);
+    let text = play_case(&bytes[0..size], way, &mut out);
     judge(name, &out[0..text], &expected[0..length])
 }
 
@@ -190,7 +221,7 @@ fn counted(t: Tally, passed: bool) -> Tally
 }
 
 // The cases that a list names.
-fn run_names(list: &[u8], every: bool) -> Tally
+fn run_names(list: &[u8], way: Way) -> Tally
     requires { ⌜ length (now list) ≤ 65536 ⌝ }
     ensures { λ r. ⌜ Counted 65536 r ⌝ }
 {
@@ -201,14 +232,14 @@ fn run_names(list: &[u8], every: bool) -> Tally
     let mut at = 0;
     while at < list.len() {
         let end = line_end(list, at);
-        t = counted(t, run_case(&list[at..end], every));
+        t = counted(t, run_case(&list[at..end], way));
         at = end + 1;
     }
     t
 }
 
 // The cases of the list in a file. A list that cannot be read counts as a case that failed.
-fn run_list(path: &[u8], every: bool) -> Tally
+fn run_list(path: &[u8], way: Way) -> Tally
     ensures { λ r. ⌜ Counted 65536 r ⌝ }
 {
     let mut list = [0u8; 65536];
@@ -220,14 +251,15 @@ fn run_list(path: &[u8], every: bool) -> Tally
             failed: 1,
         };
     }
-    run_names(&list[0..size], every)
+    run_names(&list[0..size], way)
 }
 
 fn main() {
-    let a = run_list(b"cases.txt", false);
-    let b = run_list(b"cuts.txt", true);
-    io::print_decimal(STDOUT_FILENO, a.cases + b.cases);
+    let a = run_list(b"cases.txt", Way::Whole);
+    let b = run_list(b"cuts.txt", Way::EveryLength);
+    let c = run_list(b"texts.txt", Way::Texts);
+    io::print_decimal(STDOUT_FILENO, a.cases + b.cases + c.cases);
     io::write_all(STDOUT_FILENO, b" cases, ");
-    io::print_decimal(STDOUT_FILENO, a.failed + b.failed);
+    io::print_decimal(STDOUT_FILENO, a.failed + b.failed + c.failed);
     io::write_all(STDOUT_FILENO, b" failed\n");
 }
