@@ -104,8 +104,9 @@ fn put_boot(
     let a = returned.answer;
     let told = put_three(out, at, b" boot", a.refusal, a.first, a.second);
     let machine = returned.machine;
-    let areas = machine.areas;
-    put_areas(out, told, areas, machine.declared)
+    let memory = machine.memory;
+    let areas = memory.areas;
+    put_areas(out, told, areas, memory.declared)
 }
 
 // A line for a text.

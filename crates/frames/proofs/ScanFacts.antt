@@ -1,5 +1,6 @@
 -- What holds at the head of a loop that looks through the places from `from` up to `end`, and stands at i. Assumes nothing.
 --     Seeking     a search for the lowest place that passes: what is left to search is the range from i on
+--     Narrowing   the same, where the lowest found so far is the end of what is looked through
 --     Asking      whether some place passes, with no exit: whether one of the j from `from` on does
 --     Passing     a check that each place passes: each place before i does
 --     Taking      the places that pass are taken off a number, as long as it is not 0
@@ -12,8 +13,8 @@ use mathlib.Core.Path.{_≡_, refl, sym, ap, subst, _∙_}
 use mathlib.Core.Bool.{Bool, true, false, _||_}
 use Rattle.search.specs.Choice.{if_then_else_}
 use Rattle.search.specs.Search.{lowestFrom, some, every, howMany}
-use Rattle.search.proofs.Bools.{below-or-not}
-use Rattle.search.proofs.Lowest.{Least, lowest-least, lowest-here, lowest-skip, lowest-next, lowest-end}
+use Rattle.search.proofs.Bools.{by-cases, below-or-not}
+use Rattle.search.proofs.Lowest.{Least, lowest-least, lowest-is, lowest-here, lowest-skip, lowest-next, lowest-end}
 use Rattle.search.proofs.Ranges.{some-none, some-next, all-every, every-miss}
 use Rattle.search.proofs.Counts.{many-none, many-next, many-split, many-zero, many-le, many-suc}
 
@@ -53,6 +54,55 @@ module _ {p : ℕ → Bool} {from end i : ℕ} (s : Seeking p from end i) (j g :
 -- where no place of the range passes, the search goes to its end
 pub seek-none : (p : ℕ → Bool) (i j : ℕ) → i ≤ j → ((k : ℕ) → i ≤ k → k < j → p k ≡ false) → j ≡ lowestFrom p i (j - i)
 seek-none p i j h none = seek-end (seek-skip (seek-start {p = p} {from = i} {end = j}) j h (le-refl j) none) (le-refl j)
+
+pub record Narrowing (p : ℕ → Bool) (from end found i : ℕ) : Type 0 where
+  pub begun : from ≤ i
+  pub low : from ≤ found
+  pub high : found ≤ end
+  pub hit : found < end → p found ≡ true
+  pub miss : (k : ℕ) → from ≤ k → k < i → k < found → p k ≡ false
+
+pub narrow-start : {p : ℕ → Bool} (from end : ℕ) → from ≤ end → Narrowing p from end end from
+narrow-start from end h =
+    record { begun = le-refl from; low = h; high = le-refl end; hit = λ a. absurd (omega arith); miss = λ k a b. absurd (omega arith) }
+
+module _ {p : ℕ → Bool} {from end found i : ℕ} (s : Narrowing p from end found i) where
+  narrow-hit : i < found → p i ≡ true → Narrowing p from end i (i + 1)
+  narrow-hit h e =
+      record {
+        begun = omega (arith, s .begun);
+        low = s .begun;
+        high = omega (arith, s .high);
+        hit = λ _. e;
+        miss = λ k a b c. s .miss k a c (omega arith);
+      }
+
+  narrow-miss : p i ≡ false → Narrowing p from end found (i + 1)
+  narrow-miss e =
+      record {
+        begun = omega (arith, s .begun);
+        low = s .low;
+        high = s .high;
+        hit = s .hit;
+        miss = λ k a b c. below-or-not k i (λ h. s .miss k a h c) (λ h. subst (λ (x : ℕ). p x ≡ false) (omega arith) e);
+      }
+
+  -- the place at i is looked at: r is it, where it passes, and else what was found
+  pub narrow-turn : (r : ℕ) → r ≡ (if p i then i else found) → i < found → Narrowing p from end r (i + 1)
+  narrow-turn r e h =
+      by-cases (p i) (λ t. rw (e ∙ ap (λ (b : Bool). if b then i else found) t) (narrow-hit h t))
+      (λ f. rw (e ∙ ap (λ (b : Bool). if b then i else found) f) (narrow-miss f))
+
+  pub narrow-end : found ≤ i → found ≡ lowestFrom p from (end - from)
+  narrow-end h =
+      sym
+      (lowest-is p from (end - from) found
+      (record {
+        low = s .low;
+        high = omega (arith, s .high, s .low);
+        hit = λ a. s .hit (omega (arith, s .low, s .high));
+        miss = λ k a b. s .miss k a (omega arith) b;
+      }))
 
 pub record Asking (p : ℕ → Bool) (from : ℕ) (hit : Bool) (j : ℕ) : Type 0 where
   pub asked : hit ≡ some p from j

@@ -1,6 +1,7 @@
 // Page frames, the areas that are reserved among them, and the marks that say what each frame holds.
 mod areas;
 mod fills;
+pub mod kinds;
 mod marks;
 mod units;
 
@@ -15,6 +16,7 @@ pub use marks::find_free;
 pub use marks::find_free_ordinary;
 pub use marks::find_page;
 pub use marks::has_free_ordinary;
+pub use units::frame_at;
 pub use units::place_of;
 
 // A physical frame number.

@@ -14,35 +14,51 @@ use crate::Frame;
 use crate::Place;
 use crate::areas::ordinary_run;
 use crate::fills::range_end;
+use crate::kinds::FIXED;
+use crate::kinds::FREE;
+use crate::kinds::LATER;
+use crate::kinds::MOVABLE;
+
+// The largest field that a mark has room for.
+const MOST_FIELD: u64 = 0x1fff_ffff;
 
 // The mark is a page of that name.
 fn is_page(mark: u32, name: u32) -> bool
     ensures { λ r. ⌜ r ≡ isPageOf name mark ⌝ }
 {
     let kind = mark % 8;
-    if kind == 0 {
+    if kind == FREE {
         return false;
     }
-    if 3 < kind {
+    if FIXED < kind {
         return false;
     }
     mark / 8 == name
 }
 
-// The same as `page_in`, place by place.
+// A place, where its mark is a page of that name; else the other.
+fn page_or(mark: u32, name: u32, at: usize, other: usize) -> usize
+    ensures { λ r. ⌜ r ≡ (if isPageOf name mark then at else other) ⌝ }
+{
+    if is_page(mark, name) {
+        return at;
+    }
+    other
+}
+
+// The same as `page_in`, place by place. The first page found is the end of what is looked through.
 fn page_one_by_one(marks: &[u32], name: u32, from: Place, end: Place) -> Place
     requires { ⌜ (from .0 ≤ end .0) × (end .0 ≤ length (now marks)) ⌝ }
     ensures { λ r. ⌜ r .0 ≡ lowestFrom (marked (isPageOf name) (now (marks .entry))) (from .0) (end .0 - from .0) ⌝ }
 {
     let last = end.0;
+    let mut found = last;
     let mut i = from.0;
-    while i < last {
-        if is_page(marks[i], name) {
-            return Place(i);
-        }
+    while i < found {
+        found = page_or(marks[i], name, i, found);
         i += 1;
     }
-    Place(i)
+    Place(found)
 }
 
 // Some mark of the block has that field.
@@ -94,7 +110,7 @@ pub fn find_page(marks: &[u32], name: u64) -> Place
     ensures { λ r. ⌜ r ≡ place (lowest (marked (isPageOf name) (now (marks .entry))) (length (now (marks .entry)))) ⌝ }
 {
     let len = marks.len();
-    if 0x1fff_ffff < name {
+    if MOST_FIELD < name {
         return Place(len);
     }
     page_in(marks, name as u32, Place(0), Place(len))
@@ -108,7 +124,7 @@ fn free_one_by_one(marks: &[u32], from: Place, end: Place) -> Place
     let last = end.0;
     let mut i = from.0;
     while i < last {
-        if marks[i] % 8 == 0 {
+        if marks[i] % 8 == FREE {
             return Place(i);
         }
         i += 1;
@@ -125,7 +141,7 @@ fn block_has_free(marks: &[u32], from: Place) -> bool
     let mut hit = false;
     let mut j = 0;
     while j < 32 {
-        hit = hit | (marks[first + j] % 8 == 0);
+        hit = hit | (marks[first + j] % 8 == FREE);
         j += 1;
     }
     hit
@@ -175,7 +191,7 @@ pub fn can_leave(marks: &[u32], from: Place, count: u64) -> bool
     let end = range_end(from.0, count, marks.len());
     let mut i = from.0;
     while i < end {
-        if 1 < marks[i] % 8 {
+        if MOVABLE < marks[i] % 8 {
             return false;
         }
         i += 1;
@@ -201,7 +217,7 @@ pub fn are_later(marks: &[u32], from: Place, count: u64) -> bool
     let end = first + count as usize;
     let mut i = first;
     while i < end {
-        if marks[i] % 8 != 5 {
+        if marks[i] % 8 != LATER {
             return false;
         }
         i += 1;
@@ -227,7 +243,7 @@ pub fn count_movable(marks: &[u32], from: Place, count: u64) -> u64
 fn is_movable(mark: u32) -> u64
     ensures { λ r. ⌜ r ≡ (if hasKind movable mark then 1 else 0) ⌝ }
 {
-    if mark % 8 == 1 {
+    if mark % 8 == MOVABLE {
         return 1;
     }
     0
@@ -278,7 +294,7 @@ fn less_free(marks: &[u32], from: Place, end: Place, least: u64) -> u64
 fn is_free(mark: u32) -> u64
     ensures { λ r. ⌜ r ≡ (if hasKind free mark then 1 else 0) ⌝ }
 {
-    if mark % 8 == 0 {
+    if mark % 8 == FREE {
         return 1;
     }
     0

@@ -1,7 +1,8 @@
-// The place of a frame. The other conversions need a sum that may pass the largest number, and stand with the machine, which bounds it.
-ghost use Prim.Native.Nat.{_-_};
+// The place of a frame, and the frame at a place. The conversions to and from bits stand with the grants, those to and from bytes with the
+// declarations: each needs bounds that are known there.
+ghost use Prim.Native.Nat.{_+_, _-_, min};
 ghost use mathlib.Core.Path.{_≡_};
-ghost use Rattle.frames.specs.Units.{place};
+ghost use Rattle.frames.specs.Units.{frame, place};
 use crate::Frame;
 use crate::Place;
 
@@ -13,4 +14,15 @@ pub fn place_of(base: Frame, frame: Frame) -> Place
         return Place(0);
     }
     Place((frame.0 - base.0) as usize)
+}
+
+// The frame at a place of tables that begin at frame `base`; the largest number where it would pass that.
+pub fn frame_at(base: Frame, page: Place) -> Frame
+    ensures { λ r. ⌜ r ≡ frame (min (base .0 + page .0) 18446744073709551615) ⌝ }
+{
+    let past = page.0 as u64;
+    if 18446744073709551615 - past < base.0 {
+        return Frame(18446744073709551615);
+    }
+    Frame(base.0 + past)
 }

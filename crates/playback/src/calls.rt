@@ -9,9 +9,9 @@ ghost use Rattle.rules.specs.Calls.{perform};
 ghost use Rattle.playback.specs.Playback.{kindOf, callOf, framesFor, answerTo};
 use answer::Answer;
 use answer::refusal;
+use areas::Request;
 use frames::Frame;
 use machine::Machine;
-use machine::Request;
 use machine::Returned;
 use records::Record;
 
@@ -35,7 +35,7 @@ fn frames_for(machine: Machine, item: Record) -> u64
             frames,
             order: _,
         } => frames,
-        _ => machine.frames,
+        _ => machine.memory.frames,
     }
 }
 

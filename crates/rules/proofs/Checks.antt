@@ -2,14 +2,17 @@
 --     checked-stop, checked-pass    the first check holds; it does not
 --     checked-first, checked-passed what a call does then
 --     first-or-passed               one of the two is so
-use Prim.Native.Nat.{ℕ}
+--     checked-cases                 what holds of a refusal, and of the call where it passed, holds of what the call does
+use Prim.Native.Nat.{ℕ, _<_}
 use mathlib.Core.Path.{_≡_, refl, _∙_}
-use mathlib.Core.Bool.{Bool, true, false}
+use mathlib.Core.Bool.{Bool, true, false, _&&_}
 use mathlib.Core.List.{List, [], _∷_}
-use Rattle.search.proofs.Bools.{by-cases}
+use lib.Dec.{ltb}
+use borrow.Author.Tests.{ltb-true}
+use Rattle.search.proofs.Bools.{by-cases, and-left, and-right}
 use Rattle.frames.specs.Tables.{Tables}
 use Rattle.rules.specs.Record.{Machine}
-use Rattle.rules.specs.Outcomes.{Outcome, outcome, Check, refuse, checked, First, here, there, Passed, end, next}
+use Rattle.rules.specs.Outcomes.{Outcome, outcome, Check, refuse, checked, First, here, there, Passed}
 
 module _ (m : Machine) (t : Tables) where
   pub checked-stop : (c : Check) (cs : List Check) (o : Outcome) → c .holds ≡ true → checked m t (c ∷ cs) o ≡ refuse m t (c .number)
@@ -28,11 +31,30 @@ module _ (m : Machine) (t : Tables) where
   checked-first o (here {c} {cs} e) = checked-stop c cs o e
   checked-first o (there {c} {cs} e f) = checked-pass c cs o e ∙ checked-first o f
 
-  pub checked-passed : {cs : List Check} (o : Outcome) → Passed cs → checked m t cs o ≡ o
-  checked-passed o end = checked-end o
-  checked-passed o (next {c} {cs} e p) = checked-pass c cs o e ∙ checked-passed o p
+  pub checked-passed : (cs : List Check) (o : Outcome) → Passed cs → checked m t cs o ≡ o
+  checked-passed [] o p = checked-end o
+  checked-passed (c ∷ cs) o p = checked-pass c cs o (p .0) ∙ checked-passed cs o (p .1)
 
 pub first-or-passed {ℓ} : {P : Type ℓ} (cs : List Check) → ((n : ℕ) → First cs n → P) → (Passed cs → P) → P
-first-or-passed [] refused passed = passed end
+first-or-passed [] refused passed = passed tt
 first-or-passed (c ∷ cs) refused passed =
-    by-cases (c .holds) (λ e. refused (c .number) (here e)) (λ e. first-or-passed cs (λ n f. refused n (there e f)) (λ p. passed (next e p)))
+    by-cases (c .holds) (λ e. refused (c .number) (here e)) (λ e. first-or-passed cs (λ n f. refused n (there e f)) (λ p. passed (e, p)))
+
+-- each check has a refusal's number
+abbrev pub numbered : List Check → Bool
+numbered [] = true
+numbered (c ∷ cs) = ltb 0 (c .number) && numbered cs
+
+-- so the first that holds has one
+pub first-numbered : {cs : List Check} {n : ℕ} → numbered cs ≡ true → First cs n → 0 < n
+first-numbered z (here {c} {cs} e) = ltb-true 0 (c .number) (and-left (ltb 0 (c .number)) (numbered cs) z)
+first-numbered z (there {c} {cs} e f) = first-numbered (and-right (ltb 0 (c .number)) (numbered cs) z) f
+
+pub checked-cases :
+    (P : Outcome → Type 0) (m : Machine) (t : Tables) (cs : List Check) (o : Outcome) →
+    numbered cs ≡ true → ((number : ℕ) → 0 < number → P (refuse m t number)) → (Passed cs → P o) → P (checked m t cs o)
+unfolding checked
+checked-cases P m t [] o nums refused passed = passed tt
+checked-cases P m t (c ∷ cs) o nums refused passed =
+    by-cases (c .holds) (λ e. rw e (refused (c .number) (ltb-true 0 (c .number) (and-left (ltb 0 (c .number)) (numbered cs) nums))))
+    (λ e. rw e (checked-cases P m t cs o (and-right (ltb 0 (c .number)) (numbered cs) nums) refused (λ rest. passed (e, rest))))

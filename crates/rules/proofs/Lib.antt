@@ -1,6 +1,5 @@
 pub mod AreaRight
 pub mod BareShape
-pub mod CheckCases
 pub mod Checks
 pub mod Divisions
 pub mod NewArea

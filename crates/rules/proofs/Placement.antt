@@ -26,7 +26,7 @@ use Rattle.rules.specs.Shape.{wordsNeeded, shapeRight}
 use Rattle.rules.specs.PageCalls.{freeOrdinary}
 use Rattle.rules.specs.Outcomes.{Outcome, outcome, refuse}
 use Rattle.answer.specs.Answers.{done}
-use Rattle.rules.proofs.CheckCases.{checked-cases}
+use Rattle.rules.proofs.Checks.{checked-cases}
 use Rattle.rules.proofs.Divisions.{up-low, ceiling-some}
 use Rattle.rules.proofs.Rounding.{Blocks, asked, alignment-some, limit-high, alignment-blocks, pages-of, bytes-of, pages-multiple, pages-some}
 use Rattle.rules.proofs.NewArea.{new-shape}

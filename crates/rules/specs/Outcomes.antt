@@ -42,6 +42,6 @@ pub data First : List Check → ℕ → Type 0 where
   there : {c : Check} {cs : List Check} {n : ℕ} → c .holds ≡ false → First cs n → First (c ∷ cs) n
 
 -- no check of the list holds
-pub data Passed : List Check → Type 0 where
-  end : Passed []
-  next : {c : Check} {cs : List Check} → c .holds ≡ false → Passed cs → Passed (c ∷ cs)
+abbrev pub Passed : List Check → Type 0
+Passed [] = Unit {0}
+Passed (c ∷ cs) = (c .holds ≡ false) × Passed cs

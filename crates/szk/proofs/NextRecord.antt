@@ -22,7 +22,7 @@ use Rattle.rules.specs.DeviceCalls as Device
 use Rattle.rules.specs.Declare as Declare
 use Rattle.rules.specs.Boot as Boot
 use Rattle.rules.specs.Calls.{Call, putMovable, putFixed, dropPage, pinPage, unpinPage, storePage, readPage, grant, release, deviceStore, deviceRead, declare, boot, perform}
-use Rattle.rules.proofs.CheckCases.{numbered, checked-cases}
+use Rattle.rules.proofs.Checks.{numbered, checked-cases}
 use Rattle.szk.specs.Layout.{recordLength, answerLength, areasStart, recordOf, numbersOf, over}
 use Rattle.szk.specs.Exported.{exported}
 use Rattle.szk.specs.Statement.{NextRecord}

@@ -10,6 +10,7 @@ use answer::Answer;
 use frames::Area;
 use frames::Frame;
 use machine::Machine;
+use memory::Memory;
 
 // How many numbers a record takes.
 pub const RECORD: usize = 28;
@@ -63,13 +64,14 @@ pub fn load(numbers: &[u64]) -> Machine
     ensures { λ r. ⌜ machineOf r ≡ recordOf (now (numbers .entry)) ⌝ }
 {
     let areas = load_areas(numbers);
-    Machine {
+    let memory = Memory {
         base: Frame(numbers[0]),
         frames: numbers[1],
         order: numbers[2],
         declared: numbers[3],
         areas,
-    }
+    };
+    Machine { memory }
 }
 
 // The areas' numbers are written, after the record's own four. The second clause tells the caller, whose areas are a record's field, that
@@ -95,11 +97,12 @@ pub fn store(numbers: &mut [u64], m: Machine)
     requires { ⌜ recordLength ≤ length (now numbers) ⌝ }
     ensures { λ r. ⌜ now (numbers .exit) ≡ over (numbersOf (machineOf m)) (now (numbers .entry)) ⌝ }
 {
-    numbers[0] = m.base.0;
-    numbers[1] = m.frames;
-    numbers[2] = m.order;
-    numbers[3] = m.declared;
-    let areas = m.areas;
+    let memory = m.memory;
+    numbers[0] = memory.base.0;
+    numbers[1] = memory.frames;
+    numbers[2] = memory.order;
+    numbers[3] = memory.declared;
+    let areas = memory.areas;
     store_areas(numbers, areas);
 }
 

@@ -3,8 +3,8 @@
 // A caller lends five slices, each a pointer and a length: the machine record as 28 numbers, the marks, the content words and the bitmap
 // words, and three numbers for the answer, which are the refusal and two more. Any contents and any lengths are taken. With no room for an
 // answer nothing is done, and a record that is too short is answered as the wrong shape.
-mod devices;
+mod device_calls;
 mod exchange;
 mod layout;
-mod pages;
+mod page_calls;
 mod setup;

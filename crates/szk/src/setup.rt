@@ -4,8 +4,8 @@ ghost use Rattle.rules.specs.Calls.{boot};
 ghost use Rattle.szk.specs.Exported.{lent, exported, declareOf};
 use crate::exchange;
 use crate::layout;
+use areas::Request;
 use frames::Frame;
-use machine::Request;
 
 // An area is declared, by amounts in bytes. A `fixed` of 0 is no, any other number is yes. Answers its first frame and its count.
 #[no_mangle]

@@ -21,7 +21,7 @@ use Rattle.regions.specs.Reading.{Read, gives, refuses}
 use Rattle.rules.specs.Record.{Machine, placeOf, frameAt}
 use Rattle.rules.specs.Declare.{Request, isVacant, fitsAt, highestFit}
 use Rattle.rules.specs.Shape.{shapeWrong, lengthsRight}
-use Rattle.rules.specs.Outcomes.{Outcome, outcome, Check, _⇒_, refuse, checked}
+use Rattle.rules.specs.Outcomes.{Outcome, outcome, Check, _⇒_, refuse, checked, Passed}
 use Rattle.rules.specs.PageCalls.{pageAt, isLive, freeOrdinary, freeInArea, putAt}
 use Rattle.rules.specs.PageCalls as Page
 use Rattle.rules.specs.DeviceCalls.{placeOfBit, isCandidate, isGrantable, chosen, movers, targets, movePage, moveOut, markRun, takeRun, laterFrames, freeRun}
@@ -31,7 +31,6 @@ use Rattle.rules.specs.Boot.{zeroTables, bootRecord, booted}
 use Rattle.rules.specs.Boot as Boot
 use Rattle.rules.specs.Calls.{Call, putMovable, putFixed, dropPage, pinPage, unpinPage, storePage, readPage, grant, release, deviceStore, deviceRead, declare, boot, perform}
 use Rattle.rules.specs.ledger.Runs.{SameCall, same, otherWord, withoutWord, seen}
-use Rattle.rules.proofs.CheckCases.{NoneHolds}
 use Rattle.rules.proofs.ledger.Marks.{page-of, page-field, page-named, mark-kind, mark-field, granted-page}
 use Rattle.rules.proofs.ShapeFacts.{shape-lengths}
 use Rattle.rules.proofs.ledger.Names.{live-here}
@@ -52,13 +51,13 @@ checked-alike :
     (hides : ℕ → Bool) (c c′ : Call) (m : Machine) (t t′ : Tables) (wrong wrong′ : Bool) (rest : List Check) (o o′ : Outcome) →
     ((number : ℕ) → SeenAlike hides c c′ (refuse m t number) (refuse m t′ number)) →
     wrong ≡ wrong′ →
-    (NoneHolds rest → SeenAlike hides c c′ o o′) →
+    (Passed rest → SeenAlike hides c c′ o o′) →
     SeenAlike hides c c′ (checked m t (wrong ⇒ 1 ∷ rest) o) (checked m t′ (wrong′ ⇒ 1 ∷ rest) o′)
 unfolding checked
 checked-alike hides c c′ m t t′ wrong wrong′ rest o o′ refusal e passed =
     by-cases wrong (λ y. rw (sym e ∙ y, y) (refusal 1)) (λ n. rw (sym e ∙ n, n) (go rest passed))
   where
-    go : (cs : List Check) → (NoneHolds cs → SeenAlike hides c c′ o o′) → SeenAlike hides c c′ (checked m t cs o) (checked m t′ cs o′)
+    go : (cs : List Check) → (Passed cs → SeenAlike hides c c′ o o′) → SeenAlike hides c c′ (checked m t cs o) (checked m t′ cs o′)
     go [] p = p tt
     go (k ∷ ks) p = by-cases (k .holds) (λ y. rw y (refusal (k .number))) (λ n. rw n (go ks (λ q. p (n, q))))
 

@@ -19,7 +19,7 @@ use Rattle.rules.specs.DeviceCalls.{deviceRead}
 use Rattle.rules.specs.ledger.Ledger.{grantsAt}
 use Rattle.rules.specs.ledger.Runs.{State, isRefused}
 use Rattle.rules.specs.ledger.Statement.{isLiveFrame, ReadsRight, GrantsRight, DeviceWordsRight}
-use Rattle.rules.proofs.CheckCases.{checked-cases, checked-done}
+use Rattle.rules.proofs.Checks.{checked-cases, checked-passed}
 use Rattle.rules.proofs.ledger.Names.{live-is}
 use Rattle.rules.proofs.ledger.Grants.{at-among, takes-low, takes-high}
 use Rattle.rules.proofs.ledger.Kept.{refused-number}
@@ -42,7 +42,7 @@ module _ (s : State) (sound : SoundState s) where
 
     read-done : s .ledger .live name ≡ true → readPage m name t ≡ outcome m (done (frameAt m (pageAt m t name) .0) (wordAt t (pageAt m t name))) t
     unfolding readPage
-    read-done live = checked-done m t _ _ (ap not (sound .shape), (sound .names name .allowed live, (ap not (live-same ∙ live), tt)))
+    read-done live = checked-passed m t _ _ (ap not (sound .shape), (sound .names name .allowed live, (ap not (live-same ∙ live), tt)))
 
     read-refused : s .ledger .live name ≡ false → isRefused (readPage m name t) ≡ true
     unfolding readPage
@@ -139,7 +139,7 @@ module _ (s : State) (sound : SoundState s) where
     unfolding deviceRead
     device-done e =
         let inside = live-inside f (ltb-true 0 (grantsAt (s .ledger .grants) f) e) in
-        checked-done m t _ _ (
+        checked-passed m t _ _ (
           ap not (sound .shape),
           (
             or-neither (ltb (f .0) (m .base .0)) (leb (endFrame m) (f .0)) (le-ltb (f .0) (m .base .0) (inside .0)) (lt-leb (endFrame m) (f .0) (inside .1)),

@@ -20,7 +20,7 @@ use Rattle.rules.specs.Calls.{deviceStore, deviceRead}
 use Rattle.rules.proofs.Shapes.{Shape, shape-known}
 use Rattle.rules.specs.ledger.Ledger.{Ledger, update, withGrants}
 use Rattle.rules.specs.ledger.Invariant.{PlaceSound, Sound}
-use Rattle.rules.proofs.CheckCases.{checked-cases}
+use Rattle.rules.proofs.Checks.{checked-cases}
 use Rattle.rules.proofs.ledger.Marks.{isPage, free-granted, granted-page}
 use Rattle.rules.proofs.ledger.Tables.{OneChange, set-one}
 use Rattle.rules.proofs.ShapeFacts.{shape-lengths}

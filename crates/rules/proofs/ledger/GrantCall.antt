@@ -29,7 +29,7 @@ use Rattle.rules.specs.Calls.{grant}
 use Rattle.rules.proofs.Shapes.{shape-known}
 use Rattle.rules.specs.ledger.Ledger.{Grant, Ledger, grantOf, takes, withGrants}
 use Rattle.rules.specs.ledger.Invariant.{InArea, BitsSound, Sound}
-use Rattle.rules.proofs.CheckCases.{checked-cases}
+use Rattle.rules.proofs.Checks.{checked-cases}
 use Rattle.rules.proofs.ledger.Marks.{isPage, page-of}
 use Rattle.frames.proofs.FillFacts.{length-fill}
 use Rattle.rules.proofs.ShapeFacts.{shape-lengths}

@@ -17,7 +17,7 @@ use Rattle.rules.specs.PageCalls as Page
 use Rattle.rules.specs.Calls.{Call, dropPage, pinPage, unpinPage, storePage, readPage}
 use Rattle.rules.specs.ledger.Ledger.{Ledger, entry, withPage}
 use Rattle.rules.specs.ledger.Invariant.{PlaceSound, Sound}
-use Rattle.rules.proofs.CheckCases.{checked-cases}
+use Rattle.rules.proofs.Checks.{checked-cases}
 use Rattle.rules.proofs.ledger.Marks.{isPage, page-of, one-name, free-page, page-granted}
 use Rattle.rules.proofs.ledger.Names.{page-place, live-below, live-here, live-is, same-or-not, update-here, PageChange}
 use Rattle.rules.proofs.ledger.Kept.{Kept, kept-refused, sound-page, page-stays, done-kept}

@@ -16,7 +16,7 @@ use Rattle.rules.specs.PageCalls as Page
 use Rattle.rules.specs.Calls.{Call}
 use Rattle.rules.specs.ledger.Ledger.{Ledger, entry, withPage}
 use Rattle.rules.specs.ledger.Invariant.{Sound}
-use Rattle.rules.proofs.CheckCases.{checked-cases}
+use Rattle.rules.proofs.Checks.{checked-cases}
 use Rattle.rules.proofs.AreaRight.{ordinary-free, ordinary-is}
 use Rattle.rules.proofs.ledger.Marks.{no-page, free-page, free-granted}
 use Rattle.rules.proofs.ledger.Names.{dead-absent, same-or-not, update-here, PageChange}

@@ -25,7 +25,7 @@ use Rattle.rules.specs.Calls.{release}
 use Rattle.rules.proofs.Shapes.{shape-known}
 use Rattle.rules.specs.ledger.Ledger.{Grant, Ledger, grantOf, grantsAt, isAmong, without, withGrants}
 use Rattle.rules.specs.ledger.Invariant.{PlaceSound, GrantSound, BitsSound, Sound}
-use Rattle.rules.proofs.CheckCases.{checked-cases}
+use Rattle.rules.proofs.Checks.{checked-cases}
 use Rattle.rules.proofs.ledger.Marks.{isPage, page-of, granted-page}
 use Rattle.frames.proofs.FillFacts.{length-fill, getD-fill-in}
 use Rattle.rules.proofs.ShapeFacts.{shape-lengths}

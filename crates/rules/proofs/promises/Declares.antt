@@ -19,7 +19,7 @@ use Rattle.frames.specs.Tables.{Tables}
 use Rattle.rules.specs.Record.{Machine, placeOf}
 use Rattle.rules.specs.Declare.{Request, alignmentFor, baseFor, sizeFor, limitFor, isFixed, isOutside, startByte, endByte, areaFrom, areaFor, isVacant, firstMultiple, multiples, fitsAt, highestFit, startFor, roundDown, declareChecks, declare}
 use Rattle.rules.specs.Limits.{mostAreas, pageBytes}
-use Rattle.rules.specs.Outcomes.{Outcome, First, here, there, Passed, end, next}
+use Rattle.rules.specs.Outcomes.{Outcome, First, here, there, Passed}
 use Rattle.rules.specs.PageCalls.{freeOrdinary}
 use Rattle.rules.specs.Shape.{shapeRight}
 use Rattle.rules.proofs.Checks.{checked-first, checked-passed}
@@ -115,13 +115,16 @@ module _ (m : Machine) (r : Request) (t : Tables) where
     unfolding declare highestFit
     answer-done h =
         ap (λ (o : Outcome). o .answer)
-        (checked-passed m t _
-        (next (searched .shape)
-        (next (searched .room)
-        (next (searched .amounts)
-        (next (searched .order)
-        (next (searched .bitmap)
-        (next (not-fixed _) (next (not-fixed _) (next (and-right-false (not (isFixed m r)) _ (lt-leb last found h)) end))))))))) ∙
+        (checked-passed m t _ _ (
+          searched .shape,
+          (
+            searched .room,
+            (
+              searched .amounts,
+              (searched .order, (searched .bitmap, (not-fixed _, (not-fixed _, (and-right-false (not (isFixed m r)) _ (lt-leb last found h), tt))))),
+            ),
+          ),
+        )) ∙
         ap (λ (at : ℕ). done (at / pageBytes) (sizeFor m r / pageBytes)) start-is
 
     by-answer : {P : Type 0} → (found < last → answer ≡ done (found * A / pageBytes) (sizeFor m r / pageBytes) → P) → (last ≤ found → answer ≡ refused 13 → P) → P
@@ -161,10 +164,7 @@ declare-takes-highest m r t searched = (
 -- ---- the shape
 first-check : (m : Machine) (r : Request) (t : Tables) → declare m r t .answer .refusal ≡ 0 → shapeRight m t ≡ true
 unfolding declare
-first-check m r t e = right (refused-by-first (declareChecks m r t) m t _ refl refl .passes e)
-  where
-    right : Passed (declareChecks m r t) → shapeRight m t ≡ true
-    right (next a _) = not-flips (shapeRight m t) a
+first-check m r t e = not-flips (shapeRight m t) (refused-by-first (declareChecks m r t) m t _ refl refl .passes e .0)
 
 abbrev KeepsShape : Outcome → Type 0
 KeepsShape o = o .answer .refusal ≡ 0 → (shapeRight (o .machine) (o .left) ≡ true) × (length (o .machine .areas) ≡ mostAreas)

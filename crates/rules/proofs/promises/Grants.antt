@@ -21,7 +21,7 @@ use Rattle.frames.specs.Tables.{Tables, markAt}
 use Rattle.rules.specs.Record.{Machine, areaAt}
 use Rattle.rules.specs.Limits.{mostAlignment}
 use Rattle.rules.specs.Shape.{shapeWrong}
-use Rattle.rules.specs.Outcomes.{Outcome, outcome, refuse, checked, _⇒_, First, here, there, Passed, end, next}
+use Rattle.rules.specs.Outcomes.{Outcome, outcome, refuse, checked, _⇒_, First, here, there}
 use Rattle.rules.specs.DeviceCalls.{noArea, bitmapOf, placeOfBit, isCandidate, isGrantable, chosen, movers, targets, takeRun, grantChecks, grant}
 use Rattle.rules.proofs.Checks.{checked-first, checked-passed}
 use Rattle.rules.proofs.Divisions.{ceiling-some}
@@ -120,7 +120,7 @@ module _ (m : Machine) (t : Tables) (i count order : ℕ) where
     unfolding grant chosen
     answer-done h l =
         ap (λ (o : Outcome). o .answer)
-        (checked-passed m t _ (next (asked .shape) (next (asked .arguments) (next (lt-leb bits first h) (next (le-ltb _ _ l) end)))))
+        (checked-passed m t _ _ (asked .shape, (asked .arguments, (lt-leb bits first h, (le-ltb _ _ l, tt)))))
 
     -- which of the three it is
     by-answer : {P : Type 0} → (bits ≤ first → answer ≡ refused 7 → P) →

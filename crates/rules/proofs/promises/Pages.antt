@@ -19,7 +19,7 @@ use Rattle.frames.specs.Marks.{kindOf, hasKind, isPageOf, movable, pinned}
 use Rattle.frames.specs.Tables.{Tables, tables, markAt, wordAt, setPage}
 use Rattle.rules.specs.Record.{Machine, frameAt, isOrdinary}
 use Rattle.rules.specs.Shape.{lengthsRight, shapeRight}
-use Rattle.rules.specs.Outcomes.{Outcome, outcome, Passed, end, next}
+use Rattle.rules.specs.Outcomes.{Outcome, outcome, Passed}
 use Rattle.rules.specs.PageCalls.{pageAt, isLive, pageHas, putChecks, dropChecks, changeChecks, storeChecks, readChecks, isPlace, lowestPlace, isFree, freeOrdinary, freeInArea, putAt, putPage, dropPage, changeKind, storePage, readPage}
 use Rattle.rules.proofs.Checks.{checked-passed}
 use Rattle.rules.proofs.Shapes.{shape-known}
@@ -97,10 +97,10 @@ module _ (m : Machine) (t : Tables) where
 -- a put that has passed its checks answers the frame of its place
 put-first : (kind : ℕ) (m : Machine) (name : ℕ) (t : Tables) → Passed (putChecks kind m name t) → putPage kind m name t .answer .first ≡ m .base .0 + putAt kind m t .0
 unfolding putPage
-put-first kind m name t p = ap (λ (o : Outcome). o .answer .first) (checked-passed m t _ p)
+put-first kind m name t p = ap (λ (o : Outcome). o .answer .first) (checked-passed m t _ _ p)
 
 put-has-place : (kind : ℕ) (m : Machine) (name : ℕ) (t : Tables) → Passed (putChecks kind m name t) → isPlace m (putAt kind m t) ≡ true
-put-has-place kind m name t (next _ (next _ (next _ (next e end)))) = not-flips (isPlace m (putAt kind m t)) e
+put-has-place kind m name t p = not-flips (isPlace m (putAt kind m t)) (p .1 .1 .1 .0)
 
 pub put-takes-lowest : PutTakesLowest
 put-takes-lowest kind m name t accepted p first =
@@ -131,10 +131,10 @@ module _ (m : Machine) (t : Tables) (name : ℕ) where
 
   read-done : Passed (readChecks m name t) → readPage m name t ≡ outcome m (done (frameAt m (pageAt m t name) .0) (wordAt t (pageAt m t name))) t
   unfolding readPage
-  read-done p = checked-passed m t _ p
+  read-done p = checked-passed m t _ _ p
 
   read-live : Passed (readChecks m name t) → isLive m t name ≡ true
-  read-live (next _ (next _ (next e end))) = not-flips (isLive m t name) e
+  read-live p = not-flips (isLive m t name) (p .1 .1 .0)
 
   read-lowest :
       Passed (readChecks m name t) →
@@ -173,20 +173,19 @@ module _ (m : Machine) (name word : ℕ) (t : Tables) where
 
   store-outcome : Passed (storeChecks m name t) → storePage m name word t ≡ outcome m (done 0 0) stored
   unfolding storePage
-  store-outcome p = checked-passed m t _ p ∙ ap (outcome m (done 0 0)) stored-is
+  store-outcome p = checked-passed m t _ _ p ∙ ap (outcome m (done 0 0)) stored-is
 
   read-passes : Passed (storeChecks m name t) → Passed (readChecks m name stored)
-  read-passes (next a (next b (next c (next d end)))) =
-      next (ap not same-shape ∙ a) (next b (next (ap (λ (p : Place). not (isPlace m p)) same-place ∙ c) end))
+  read-passes q = (ap not same-shape ∙ q .0, (q .1 .0, (ap (λ (p : Place). not (isPlace m p)) same-place ∙ q .1 .1 .0, tt)))
 
   read-outcome : Passed (readChecks m name stored) → readPage m name stored ≡ outcome m (done (frameAt m (pageAt m stored name) .0) (wordAt stored (pageAt m stored name))) stored
   unfolding readPage
-  read-outcome p = checked-passed m stored _ p
+  read-outcome p = checked-passed m stored _ _ p
 
   in-words : Passed (storeChecks m name t) → pageAt m t name .0 < length (t .words)
-  in-words (next a (next b (next c d))) =
-      let s = shape-known m t (not-flips (shapeRight m t) a) in
-      let h = ltb-true (pageAt m t name .0) (m .frames) (not-flips (isLive m t name) c) in
+  in-words p =
+      let s = shape-known m t (not-flips (shapeRight m t) (p .0)) in
+      let h = ltb-true (pageAt m t name .0) (m .frames) (not-flips (isLive m t name) (p .1 .1 .0)) in
       omega (arith, s .words-length)
 
   stored-word : Passed (storeChecks m name t) → wordAt stored (pageAt m stored name) ≡ word
@@ -209,11 +208,11 @@ one-kind mark e = ne-eqb (kindOf mark) movable (λ other. let is = eqb-true (kin
 
 module _ (m : Machine) (t : Tables) (name : ℕ) (is-pinned : pageHas pinned m t name ≡ true) where
   no-drop : Passed (dropChecks m name t) → ⊥
-  no-drop (next _ (next _ (next _ (next e end)))) = clash (pageHas pinned m t name) is-pinned e
+  no-drop p = clash (pageHas pinned m t name) is-pinned (p .1 .1 .1 .0)
 
   no-pin : Passed (changeChecks movable m name t) → ⊥
-  no-pin (next _ (next _ (next _ (next e end)))) =
-      clash (pageHas movable m t name) (not-flips (pageHas movable m t name) e) (one-kind (markAt t (pageAt m t name)) is-pinned)
+  no-pin p =
+      clash (pageHas movable m t name) (not-flips (pageHas movable m t name) (p .1 .1 .1 .0)) (one-kind (markAt t (pageAt m t name)) is-pinned)
 
 pub pinned-pages-stay : PinnedPagesStay
 pinned-pages-stay m t name p =

@@ -30,7 +30,7 @@ use Rattle.frames.proofs.FillFacts.{length-fill, getD-fill-below, getD-fill-abo
 use Rattle.rules.specs.Record.{Machine, areaAt, placeOf, isOrdinary}
 use Rattle.rules.specs.Limits.{mostAlignment}
 use Rattle.rules.specs.Shape.{shapeRight, lengthsRight}
-use Rattle.rules.specs.Outcomes.{Outcome, outcome, Passed, end, next}
+use Rattle.rules.specs.Outcomes.{Outcome, outcome, Passed}
 use Rattle.rules.specs.PageCalls.{isFree, freeOrdinary}
 use Rattle.rules.specs.DeviceCalls.{noArea, bitmapOf, placeOfBit, chosen, movers, targets, moveOut, markRun, takeRun, grantChecks, grant, outsideArea, offBit, laterFrames, freeRun, releaseChecks, release}
 use Rattle.rules.proofs.Checks.{checked-passed}
@@ -69,19 +69,13 @@ module _ (m : Machine) (i count order : ℕ) (t : Tables) (passed : Passed (gran
 
   -- ---- what the checks say
   right : shapeRight m t ≡ true
-  right = first passed
-    where
-      first : Passed (grantChecks m i count order t) → shapeRight m t ≡ true
-      first (next a _) = not-flips (shapeRight m t) a
+  right = not-flips (shapeRight m t) (passed .0)
 
   shape : Shape m t
   shape = shape-known m t right
 
   arguments : (noArea m i || eqb count 0 || ltb mostAlignment order) ≡ false
-  arguments = second passed
-    where
-      second : Passed (grantChecks m i count order t) → (noArea m i || eqb count 0 || ltb mostAlignment order) ≡ false
-      second (next _ (next b _)) = b
+  arguments = passed .1 .0
 
   known : i < m .declared
   known = leb-false (m .declared) i (or-left (noArea m i) (eqb count 0) (or-left (noArea m i || eqb count 0) (ltb mostAlignment order) arguments))
@@ -92,16 +86,10 @@ module _ (m : Machine) (i count order : ℕ) (t : Tables) (passed : Passed (gran
       (λ h. absurd (eqb-false count 0 (or-right (noArea m i) (eqb count 0) (or-left (noArea m i || eqb count 0) (ltb mostAlignment order) arguments)) (omega arith)))
 
   found : j < bitCount area
-  found = third passed
-    where
-      third : Passed (grantChecks m i count order t) → j < bitCount area
-      third (next _ (next _ (next c _))) = leb-false (bitCount area) j c
+  found = leb-false (bitCount area) j (passed .1 .1 .0)
 
   room : movers t (place p) count ≤ targets m t
-  room = fourth passed
-    where
-      fourth : Passed (grantChecks m i count order t) → movers t (place p) count ≤ targets m t
-      fourth (next _ (next _ (next _ (next d _)))) = ltb-false (targets m t) (movers t (place p) count) d
+  room = ltb-false (targets m t) (movers t (place p) count) (passed .1 .1 .1 .0)
 
   grantable : Grantable m t i count order j
   unfolding chosen
@@ -116,7 +104,7 @@ module _ (m : Machine) (i count order : ℕ) (t : Tables) (passed : Passed (gran
 
   grant-is : grant m i count order t ≡ outcome m (done (frameOfBit area (bit j) .0) (movers t (place p) count)) (takeRun m t i count (bit j))
   unfolding grant
-  grant-is = checked-passed m t _ passed
+  grant-is = checked-passed m t _ _ passed
 
   ready : Ready m t p count
   unfolding movers targets
@@ -245,11 +233,11 @@ module _ (m : Machine) (i count order : ℕ) (t : Tables) (passed : Passed (gran
   agrees = or-neither _ _ (ap not (eq-eqb _ count (ap fieldOf head-there ∙ head-field count))) (ap not later-there)
 
   release-passes : Passed (releaseChecks m i f count left)
-  release-passes = next (ap not right-left) (next inside-area (next on-bit (next agrees end)))
+  release-passes = (ap not right-left, (inside-area, (on-bit, (agrees, tt))))
 
   release-is : release m i f count left ≡ outcome m (done 0 0) released
   unfolding release freeRun
-  release-is = checked-passed m left _ release-passes ∙ ap (λ (k : ℕ). outcome m (done 0 0) (withBitmap (fillPages left (place p) count 0 0) (clearBits (left .bitmap) (bitmapOf m i) k (bitsFor area count)))) (sym bit-back)
+  release-is = checked-passed m left _ _ release-passes ∙ ap (λ (k : ℕ). outcome m (done 0 0) (withBitmap (fillPages left (place p) count 0 0) (clearBits (left .bitmap) (bitmapOf m i) k (bitsFor area count)))) (sym bit-back)
 
   bitmap-back : released .bitmap ≡ t .bitmap
   bitmap-back = clear-set (t .bitmap) (bitmapOf m i) j (bitsFor area count) (all-every _ j (bitsFor area count) (grantable .candidate .clear))

@@ -13,7 +13,7 @@ use Rattle.rules.specs.Declare as Declare
 use Rattle.rules.specs.Boot as Boot
 use Rattle.rules.specs.Calls.{putMovable, putFixed, dropPage, pinPage, unpinPage, storePage, readPage, grant, release, deviceStore, deviceRead, declare, boot}
 use Rattle.rules.specs.promises.Unchanged.{RefusalChangesNothing}
-use Rattle.rules.proofs.CheckCases.{numbered, checked-cases}
+use Rattle.rules.proofs.Checks.{numbered, checked-cases}
 
 -- what is refused left the record and the tables as they were
 abbrev Kept : Machine → Tables → Outcome → Type 0

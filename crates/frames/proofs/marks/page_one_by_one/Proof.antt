@@ -1,48 +1,42 @@
--- `frames::marks::page_one_by_one` meets its contract: what is left to search is the range from `i` on. Assumes nothing.
+-- `frames::marks::page_one_by_one` meets its contract: the places before `i` and before what is found have no such page. Assumes nothing.
 use Prim.Native.Nat.{_-_}
 use native.Mathlib.Omega.{arith}
-use mathlib.Core.Path.{sym, _∙_}
 use borrow.Author.Needs.{needs}
 use Rattle.frames.specs.Marks.{isPageOf}
 use Rattle.frames.specs.Scans.{marked}
-use Rattle.frames.proofs.ScanFacts.{Seeking, seek-start, seek-turn, seek-hit, seek-end}
+use Rattle.frames.proofs.ScanFacts.{Narrowing, narrow-start, narrow-turn, narrow-end}
 use Rattle.frames.proofs.marks.page_one_by_one.Statement.{statement}
 use Rattle.frames.proofs.marks.page_one_by_one.Tie as tie
 
 abbrev Inv-loop : tie.InvT-loop
-Inv-loop marks name end from i = Seeking (marked (isPageOf name) marks) from end i
+Inv-loop marks name last end from found i = Narrowing (marked (isPageOf name) marks) from last found i
 
 abbrev μ-loop : tie.MeasureT-loop
-μ-loop marks name end from i = end - i
+μ-loop marks name last end from found i = last - i
 
 loop-holds : tie.Need-loop-holds Inv-loop μ-loop
-loop-holds c = seek-start
+loop-holds c = narrow-start _ _ (c .before .pre .0)
 
-mul-is-page : tie.Need-mul-is-page Inv-loop μ-loop
-mul-is-page c = search needs
+mul-page-or : tie.Need-mul-page-or Inv-loop μ-loop
+mul-page-or c = search needs
 
-shared-slice-read-is-page : tie.Need-shared-slice-read-is-page Inv-loop μ-loop
-shared-slice-read-is-page c = omega arith
+shared-slice-read-page-or : tie.Need-shared-slice-read-page-or Inv-loop μ-loop
+shared-slice-read-page-or c = omega (arith, c .before .before .loop .inv .high, c .before .before .before .before .pre .1)
 
-is-page-requires : tie.Need-is-page-requires Inv-loop μ-loop
-is-page-requires c κs = search needs
-
-returns : tie.Need-returns Inv-loop μ-loop
-returns c =
-    seek-hit (c .before .before .before .before .loop .inv) (omega arith) (sym (c .before .is-page .ensures) ∙ c .if1 .taken)
+page-or-requires : tie.Need-page-or-requires Inv-loop μ-loop
+page-or-requires c κs = search needs
 
 add-i : tie.Need-add-i Inv-loop μ-loop
-add-i c = omega arith
+add-i c = omega (arith, c .before .before .before .loop .inv .high)
 
 loop-less : tie.Need-loop-less Inv-loop μ-loop
-loop-less c = omega arith
+loop-less c = omega (arith, c .before .before .before .loop .inv .high)
 
 loop-again : tie.Need-loop-again Inv-loop μ-loop
-loop-again c =
-    seek-turn (c .before .before .before .before .loop .inv) (omega arith) (sym (c .before .is-page .ensures) ∙ c .if1 .left)
+loop-again c = narrow-turn (c .before .before .before .loop .inv) _ (c .page-or .ensures) (omega arith)
 
-returns-2 : tie.Need-returns-2 Inv-loop μ-loop
-returns-2 c = seek-end (c .before .loop .inv) (omega arith)
+returns : tie.Need-returns Inv-loop μ-loop
+returns c = narrow-end (c .before .loop .inv) (omega arith)
 
 pub page-one-by-one-spec : {M : Type 1} → statement M
 page-one-by-one-spec =
@@ -51,11 +45,10 @@ page-one-by-one-spec =
     Inv-loop
     μ-loop
     loop-holds
-    mul-is-page
-    shared-slice-read-is-page
-    is-page-requires
-    returns
+    mul-page-or
+    shared-slice-read-page-or
+    page-or-requires
     add-i
     loop-less
     loop-again
-    returns-2)
+    returns)

@@ -7,17 +7,17 @@ use Rattle.szk.proofs.layout.load.Tie as tie
 load-areas-requires : tie.Need-load-areas-requires
 load-areas-requires c κs = search needs
 
-shared-slice-read-t4 : tie.Need-shared-slice-read-t4
-shared-slice-read-t4 c = search needs
+shared-slice-read-t5 : tie.Need-shared-slice-read-t5
+shared-slice-read-t5 c = search needs
 
-shared-slice-read-t7 : tie.Need-shared-slice-read-t7
-shared-slice-read-t7 c = search needs
+shared-slice-read-t8 : tie.Need-shared-slice-read-t8
+shared-slice-read-t8 c = search needs
 
-shared-slice-read-t9 : tie.Need-shared-slice-read-t9
-shared-slice-read-t9 c = search needs
+shared-slice-read-t10 : tie.Need-shared-slice-read-t10
+shared-slice-read-t10 c = search needs
 
-shared-slice-read-t11 : tie.Need-shared-slice-read-t11
-shared-slice-read-t11 c = search needs
+shared-slice-read-t12 : tie.Need-shared-slice-read-t12
+shared-slice-read-t12 c = search needs
 
 returns : tie.Need-returns
 returns c = rw (c .before .before .before .before .load-areas .ensures) refl
@@ -27,8 +27,8 @@ load-spec =
     tie.close
     (tie.spec
     load-areas-requires
-    shared-slice-read-t4
-    shared-slice-read-t7
-    shared-slice-read-t9
-    shared-slice-read-t11
+    shared-slice-read-t5
+    shared-slice-read-t8
+    shared-slice-read-t10
+    shared-slice-read-t12
     returns)

@@ -30,11 +30,11 @@ same-length c = ap length (c .before .before .store-areas .ensures .0) ∙ simp 
 
 returns : tie.Need-returns
 returns c =
-    let at-start = c .before .before .before .before .before .before in
+    let at-start = c .before .before .before .before .before .before .before in
     let m = at-start .args .m in
     let numbers = at-start .args .numbers .now in
     let eight = c .before .before .store-areas .ensures .1 in
-    c .before .before .store-areas .ensures .0 ∙ sets-over (numbersOf (machineOf m)) numbers (omega (arith, length-area-numbers (m .areas)))
+    c .before .before .store-areas .ensures .0 ∙ sets-over (numbersOf (machineOf m)) numbers (omega (arith, length-area-numbers (m .memory .areas)))
 
 pub store-spec : {M : Type 1} → statement M
 store-spec =

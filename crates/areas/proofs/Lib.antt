@@ -1,0 +1,4 @@
+pub mod DeclareOutcomes
+pub mod Plans
+pub mod Starts
+pub mod Taken

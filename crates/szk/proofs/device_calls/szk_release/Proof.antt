@@ -1,0 +1,68 @@
+-- `szk::device_calls::szk_release` meets its contract: it is stopped before the call, or gives the call's outcome back. Assumes nothing.
+use borrow.Author.Needs.{needs}
+use Rattle.szk.proofs.LentFacts.{room, stopped, performed}
+use Rattle.szk.proofs.device_calls.szk_release.Statement.{statement}
+use Rattle.szk.proofs.device_calls.szk_release.Tie as tie
+
+refuse-short-requires : tie.Need-refuse-short-requires
+refuse-short-requires c κs = search needs
+
+same-length : tie.Need-same-length
+same-length c = search needs
+
+same-length-2 : tie.Need-same-length-2
+same-length-2 c = search needs
+
+returns : tie.Need-returns
+returns c = stopped (c .before .before .before .refuse-short .ensures) _ _ _ _ (c .if1 .taken)
+
+load-requires : tie.Need-load-requires
+load-requires c κs = room (c .before .before .before .before .refuse-short .ensures) (c .before .if1 .left) .record-long
+
+release-requires : tie.Need-release-requires
+release-requires c κs = search needs
+
+give-back-requires : tie.Need-give-back-requires
+give-back-requires c κs =
+    let long = room (c .before .before .before .before .before .before .before .before .before .before .before .before .before .before .before .before .before .refuse-short .ensures) (c .before .before .before .before .before .before .before .before .before .before .before .before .before .before .if1 .left) in
+    (long .record-long, long .after-long)
+
+same-length-3 : tie.Need-same-length-3
+same-length-3 c = search needs
+
+same-length-4 : tie.Need-same-length-4
+same-length-4 c = search needs
+
+same-length-5 : tie.Need-same-length-5
+same-length-5 c = search needs
+
+same-length-6 : tie.Need-same-length-6
+same-length-6 c = search needs
+
+same-length-7 : tie.Need-same-length-7
+same-length-7 c = search needs
+
+returns-2 : tie.Need-returns-2
+returns-2 c =
+    let called = c .before .before .before .before .before .before .before .before .before .before .before .before .before in
+    let judged = called .before .before .before .before .before .before .before .before .before in
+    performed (judged .refuse-short .ensures) _ _ _ _ (called .before .before .before .before .before .before .if1 .left)
+    (called .before .before .before .before .load .ensures) (called .release .ensures) (c .before .before .before .before .give-back .ensures .0) (c .before .before .before .before .give-back .ensures .1)
+
+pub szk-release-spec : {M : Type 1} → statement M
+szk-release-spec =
+    tie.close
+    (tie.spec
+    refuse-short-requires
+    same-length
+    same-length-2
+    returns
+    load-requires
+    release-requires
+    give-back-requires
+    same-length-3
+    same-length-4
+    same-length-5
+    same-length-6
+    same-length-7
+    returns-2)
