@@ -18,7 +18,8 @@
  * the answer. What the caller owes is C's own rule: each pointer is to as many entries as its
  * length says (with a length of 0 it may be NULL), and no two of the slices overlap.
  *
- *   - An answer shorter than SZK_ANSWER_NUMBERS: the call does nothing at all.
+ *   - An answer shorter than SZK_ANSWER_NUMBERS: nothing is done, and its first number, if it has
+ *     one, becomes SZK_WRONG_SHAPE. An answer of length 0 can be told nothing.
  *   - Otherwise, a record shorter than SZK_RECORD_NUMBERS: SZK_WRONG_SHAPE, 0, 0.
  *   - Numbers after those of the record and of the answer are kept.
  *

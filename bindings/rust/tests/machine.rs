@@ -1,5 +1,6 @@
 //! The wrapper as a caller uses it.
 
+use szk::lent::{self, Lent};
 use szk::{refusal, Answer, Area, Machine, Request, Tables};
 
 fn answer(refusal: u64, first: u64, second: u64) -> Answer {
@@ -67,4 +68,31 @@ fn a_grant_moves_pages_out() {
         assert_eq!(machine.unpin(t, 17), answer(0, 0, 0));
         assert_eq!(machine.put_fixed(t, 30), answer(refusal::NO_FRAME, 0, 0));
     });
+}
+
+/// Boots a machine of one frame on slices of any length, and tells what its mark and its word, which were 9, are then.
+fn lent_boot(answer: &mut [u64], record: &mut [u64]) -> (u32, u64) {
+    let (mut marks, mut words) = ([9], [9]);
+    let lent = Lent { record, marks: &mut marks, words: &mut words, bitmap: &mut [], answer };
+    lent::boot(lent, 4, 1, 0, b"");
+    (marks[0], words[0])
+}
+
+#[test]
+fn a_short_answer_is_told_the_refusal_alone() {
+    for length in 0..=2 {
+        let (mut answer, mut record) = ([0, 0, 7], [0; Machine::NUMBERS]);
+        assert_eq!(lent_boot(&mut answer[..length], &mut record), (9, 9));
+        assert_eq!(answer, [if length == 0 { 0 } else { refusal::WRONG_SHAPE }, 0, 7]);
+        assert_eq!(record, [0; Machine::NUMBERS]);
+    }
+}
+
+#[test]
+fn a_short_record_is_the_wrong_shape() {
+    let (mut answer, mut record) = ([0, 5, 6, 7], [3; Machine::NUMBERS]);
+    assert_eq!(lent_boot(&mut answer, &mut record[..Machine::NUMBERS - 1]), (9, 9));
+    assert_eq!((answer, record), ([refusal::WRONG_SHAPE, 0, 0, 7], [3; Machine::NUMBERS]));
+    assert_eq!(lent_boot(&mut answer, &mut record), (0, 0));
+    assert_eq!((answer, record[..4].to_vec()), ([0, 0, 0, 7], vec![4, 1, 0, 0]));
 }

@@ -2,28 +2,24 @@
 --     word-kept        a word that no bit of the run stands in is as it was, whatever is done to the bits
 --     run-changed      a bit of the run, within the words, becomes v: 1 for setBits, 0 for clearBits
 --     bit-kept         a bit of any word that is no bit of the run is as it was
---     change-is        and nothing else is so: words of that length with those bits are the changed ones
 --     run-below        words below 2 ^ 64 stay so
 -- In the terms of isClear, of this bitmap or of another that shares the words (f and v by `setting` or `clearing`):
 --     set-not-clear, cleared-clear    the run's bits
 --     clear-outside, clear-apart, clear-kept    the other bits: of this bitmap; of another one's words; of any that the run is not
---     clear-set                       a clear run that is set and then cleared: the words are as they were
 -- The run's length of words is `change-length`, in Runs. Of a word elsewhere or a bit elsewhere, omega shows NoWord and NoBit from bounds:
 -- `λ k a b e. omega arith`.
-use Prim.Native.Nat.{ℕ, zero, suc, _+_, _-_, _*_, _/_, _%_, _^_, _≤_, _<_}
+use Prim.Native.Nat.{ℕ, zero, suc, _+_, _/_, _%_, _^_, _≤_, _<_}
 use native.Mathlib.Omega.{arith}
 use mathlib.Core.Path.{_≡_, refl, sym, ap, _∙_}
 use mathlib.Core.Bool.{true, false}
 use mathlib.Core.List.{List}
 use lib.Dec.{eqb}
-use lib.ListN.{length, getD, set}
-use lib.Seq.{set-out, getD-set-same, getD-set-other, ext-getD}
+use lib.ListN.{length, getD}
+use lib.Seq.{set-out, getD-set-same, getD-set-other}
 use borrow.Author.Tests.{eqb-true, eqb-false}
-use Rattle.search.specs.Search.{every}
 use Rattle.search.proofs.Bools.{by-cases, below-or-not}
-use Rattle.search.proofs.Ranges.{every-all}
-use Rattle.bitmap.specs.Bits.{bitOf, setIn, clearIn, isClear, changeBit, changeBits, setBits, clearBits}
-use Rattle.bitmap.proofs.Word.{Change, setting, clearing, bit-here, bit-other, change-below, same-bits}
+use Rattle.bitmap.specs.Bits.{bitOf, clearIn, isClear, changeBit, changeBits, setBits, clearBits}
+use Rattle.bitmap.proofs.Word.{Change, setting, clearing, bit-here, bit-other, change-below}
 use Rattle.bitmap.proofs.Runs.{one-length, change-length, clear-out}
 
 -- no bit of the run stands in word i; none is bit t of word i
@@ -32,17 +28,6 @@ NoWord st j d i = (k : ℕ) → j ≤ k → k < j + d → st + k / 64 ≡ i → 
 
 abbrev pub NoBit : ℕ → ℕ → ℕ → ℕ → ℕ → Type 0
 NoBit st j d i t = (k : ℕ) → j ≤ k → k < j + d → st + k / 64 ≡ i → k % 64 ≡ t → ⊥
-
-in-run-or-not : {P : Type 0} (st j d i t : ℕ) → ((k : ℕ) → j ≤ k → k < j + d → st + k / 64 ≡ i → k % 64 ≡ t → P) → (NoBit st j d i t → P) → P
-in-run-or-not st j d i t hit miss =
-    let k : ℕ = 64 * (i - st) + t in
-    below-or-not t 64
-    (λ a.
-    below-or-not i st (λ b. miss (λ l u x e q. omega arith))
-    (λ b.
-    below-or-not k j (λ h. miss (λ l u x e q. omega arith))
-    (λ h. below-or-not k (j + d) (λ l. hit k h l (omega arith) (omega arith)) (λ l. miss (λ m u x e q. omega arith)))))
-    (λ a. miss (λ l u x e q. omega arith))
 
 pub word-kept : (f : ℕ → ℕ → ℕ) (ws : List ℕ) (st j d i : ℕ) → NoWord st j d i → getD (changeBits f ws st j d) i 0 ≡ getD ws i 0
 unfolding changeBits changeBit
@@ -99,23 +84,6 @@ module _ {f : ℕ → ℕ → ℕ} {v : ℕ} (ch : Change f v) where
       run-below (changeBit f ws st j) st (suc j) d
       (λ i. one-word (λ (x : ℕ). x < 2 ^ 64) ws st j i (small i) (λ e. change-below ch 64 (getD ws i 0) (j % 64) (omega arith) (small i)))
 
-  -- nothing but the changed words has v at the run's bits and is as the words were elsewhere
-  pub change-is : (ws xs : List ℕ) (st j d : ℕ) → length xs ≡ length ws
-      → ((k : ℕ) → j ≤ k → k < j + d → st + k / 64 < length ws → bitOf (getD xs (st + k / 64) 0) (k % 64) ≡ v)
-      → ((i t : ℕ) → NoBit st j d i t → bitOf (getD xs i 0) t ≡ bitOf (getD ws i 0) t) → changeBits f ws st j d ≡ xs
-  change-is ws xs st j d long run other =
-      let now = changeBits f ws st j d in
-      let size : length now ≡ length ws = change-length f ws st j d in
-      ext-getD 0 now xs (size ∙ sym long)
-      (λ i h.
-      same-bits (getD now i 0) (getD xs i 0)
-      (λ t.
-      in-run-or-not st j d i t
-      (λ k a b e q.
-      let inside : st + k / 64 < length ws = omega arith in
-      rw (← e, ← q) (run-changed ws st j d k a b inside ∙ sym (run k a b inside)))
-      (λ away. bit-kept ws st j d i t away ∙ sym (other i t away))))
-
 -- ---- in the terms of isClear
 module _ (ws : List ℕ) (st j d : ℕ) where
   pub set-not-clear : (k : ℕ) → j ≤ k → k < j + d → st + k / 64 < length ws → isClear (setBits ws st j d) st k ≡ false
@@ -142,13 +110,3 @@ module _ (ws : List ℕ) (st j d : ℕ) where
   pub clear-apart : (f : ℕ → ℕ → ℕ) (st' k : ℕ) → NoWord st j d (st' + k / 64) → isClear (changeBits f ws st j d) st' k ≡ isClear ws st' k
   unfolding isClear
   clear-apart f st' k away = ap (λ (x : ℕ). eqb (bitOf x (k % 64)) 0) (word-kept f ws st j d (st' + k / 64) away)
-
-  clear-bit : every (isClear ws st) j d ≡ true → (k : ℕ) → j ≤ k → k < j + d → bitOf (getD ws (st + k / 64) 0) (k % 64) ≡ 0
-  unfolding isClear
-  clear-bit all k a b = eqb-true (bitOf (getD ws (st + k / 64) 0) (k % 64)) 0 (every-all (isClear ws st) j d all k a b)
-
-  -- a clear run that is set and then cleared: freed room is as it was
-  pub clear-set : every (isClear ws st) j d ≡ true → clearBits (setBits ws st j d) st j d ≡ ws
-  clear-set all =
-      change-is clearing (setBits ws st j d) ws st j d (sym (change-length setIn ws st j d)) (λ k a b h. clear-bit all k a b)
-      (λ i t away. sym (bit-kept setting ws st j d i t away))

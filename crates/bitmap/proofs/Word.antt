@@ -4,14 +4,13 @@
 --     change-in             what a run's change within a word comes to, as a sum
 --     set-run-in, clear-run-in    the same as the code makes it
 --     bits-next, bits-le, bits-none    a run of bits as a number: one bit more; where it stands, it is part of the word; it is none
---     same-bits             two numbers with the same bits are equal
 use Prim.Native.Nat.{ℕ, zero, suc, _+_, _-_, _*_, _/_, _%_, _^_, _≤_, _<_}
-use native.Mathlib.Nat.{add-mul, mul-assoc, add-zero, pow-suc, mod-lt, div-add-mod', div-one, zero-div, zero-mul, mod-one, mod-le, le-trans, mul-le-mul-right, div-mul-le-self, mul-right-comm}
-use native.Mathlib.Numerals.{add-one, one-add}
+use native.Mathlib.Nat.{add-mul, mul-assoc, add-zero, pow-suc, mod-lt, div-add-mod', zero-div, zero-mul, mod-one, mod-le, le-trans, mul-le-mul-right, div-mul-le-self, mul-right-comm}
+use native.Mathlib.Numerals.{add-one}
 use native.Mathlib.Omega.{arith}
-use mathlib.Core.Path.{_≡_, refl, sym, ap, subst, _∙_}
+use mathlib.Core.Path.{_≡_, sym, ap, subst, _∙_}
 use mathlib.Core.Logic.{_≢_}
-use lib.Arith.{bin-ind, digits-lt, digits-div, digits-mod}
+use lib.Arith.{digits-lt, digits-div, digits-mod}
 use lib.Bits.{bitOr, or-add-and, and-high}
 use lib.Pow.{pow-pos, pow-mono, pow-add, split, high, low, field, mod-mod-pow, mod-pow-add, shr-shr, shr-lt, shl-shr}
 use Rattle.search.proofs.Bools.{below-or-not}
@@ -123,21 +122,6 @@ module _ {f : ℕ → ℕ → ℕ} {v : ℕ} (ch : Change f v) where
       rw (bits-first w s d, ← last)
       (omega
       (arith, ch .sum w s, double (bitsOf w (suc s) d) s, double v s, add-mul (bitsOf w (suc s) d * 2) (bitOf w s) (2 ^ s)))
-
--- ---- two numbers with the same bits
-join-halves : (a b : ℕ) → a / 2 ≡ b / 2 → bitOf a 0 ≡ bitOf b 0 → a ≡ b
-join-halves a b e h =
-    let odd : a % 2 ≡ b % 2 = subst (λ (x : ℕ). x % 2 ≡ b % 2) (div-one a) (subst (λ (x : ℕ). a / 1 % 2 ≡ x % 2) (div-one b) h) in
-    omega arith
-
-half-bit : (a t : ℕ) → bitOf (a / 2) t ≡ bitOf a (suc t)
-half-bit a t = ap (λ (x : ℕ). x % 2) (shr-shr a 1 t ∙ ap (λ (x : ℕ). a / 2 ^ x) (one-add t))
-
-pub same-bits : (a b : ℕ) → ((t : ℕ) → bitOf a t ≡ bitOf b t) → a ≡ b
-same-bits =
-    bin-ind (λ (a : ℕ). (b : ℕ) → ((t : ℕ) → bitOf a t ≡ bitOf b t) → a ≡ b)
-    (bin-ind (λ (b : ℕ). ((t : ℕ) → bitOf 0 t ≡ bitOf b t) → 0 ≡ b) (λ e. refl) (λ b rest e. join-halves 0 b (rest (λ t. half-bit 0 t ∙ e (suc t) ∙ sym (half-bit b t))) (e 0)))
-    (λ a rest b e. join-halves a b (rest (b / 2) (λ t. half-bit a t ∙ e (suc t) ∙ sym (half-bit b t))) (e 0))
 
 -- ---- the change of a run within a word, as the code makes it: by a mask of ones, or by taking the run's bits away
 pub set-run-in : (w s d : ℕ) → bitOr w (2 ^ (d + s) - 2 ^ s) ≡ changeIn setIn w s d

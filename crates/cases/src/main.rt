@@ -14,6 +14,7 @@ use libc::STDOUT_FILENO;
 use machine::Machine;
 use playback::Progress;
 use playback::Stop;
+use playback::held;
 use records::lines;
 
 // How a case is played: its records whole, or at every length; or its regions texts, one by one.
@@ -106,9 +107,9 @@ fn play(
 fn play_from(bytes: &[u8], out: &mut [u8], from: usize) -> usize
     ensures { λ r. ⌜ r ≤ length (now (out .entry)) ⌝ }
 {
-    let mut marks = [0u32; 2048];
-    let mut words = [0u64; 2048];
-    let mut bitmap = [0u64; 40];
+    let mut marks = held::marks();
+    let mut words = held::words();
+    let mut bitmap = held::bitmap();
     let mut text = 0;
     let mut n = from;
     while n < bytes.len() {

@@ -5,6 +5,7 @@ use crate::line_end;
 use frames::Area;
 use frames::Frame;
 use machine::Machine;
+use playback::held;
 use records::lines;
 use regions::Region;
 use regions::Regions;
@@ -132,7 +133,7 @@ pub fn answer_texts(list: &[u8], out: &mut [u8]) -> usize
 {
     let mut marks = [0u32; 32];
     let mut words = [0u64; 32];
-    let mut bitmap = [0u64; 40];
+    let mut bitmap = held::bitmap();
     let mut text = 0;
     let mut at = 0;
     while at < list.len() {

@@ -37,8 +37,8 @@ fn is_page(mark: u32, name: u32) -> bool
 }
 
 // A place, where its mark is a page of that name; else the other.
-fn page_or(mark: u32, name: u32, at: usize, other: usize) -> usize
-    ensures { λ r. ⌜ r ≡ (if isPageOf name mark then at else other) ⌝ }
+fn page_or(mark: u32, name: u32, at: Place, other: Place) -> Place
+    ensures { λ r. ⌜ r .0 ≡ (if isPageOf name mark then at .0 else other .0) ⌝ }
 {
     if is_page(mark, name) {
         return at;
@@ -55,7 +55,8 @@ fn page_one_by_one(marks: &[u32], name: u32, from: Place, end: Place) -> Place
     let mut found = last;
     let mut i = from.0;
     while i < found {
-        found = page_or(marks[i], name, i, found);
+        let lowest = page_or(marks[i], name, Place(i), Place(found));
+        found = lowest.0;
         i += 1;
     }
     Place(found)

@@ -106,7 +106,8 @@ fn is_no_head(marks: &[u32], page: Place, a: Area, frame: Frame) -> bool
     ensures { λ r. ⌜ r ≡ (offBit a frame || not (hasKind head (getD (now (marks .entry)) (page .0) 0))) ⌝ }
 {
     let per_bit = block_of(a.order);
-    if (frame.0 - a.base.0) % per_bit != 0 {
+    let past = frame.0 - a.base.0;
+    if past % per_bit != 0 {
         return true;
     }
     let at = page.0;

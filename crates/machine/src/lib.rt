@@ -22,25 +22,6 @@ pub struct Returned {
 }
 
 impl Machine {
-    // The limits that a record and its calls keep to.
-    pub const MOST_FRAMES: u64 = Memory::MOST_FRAMES;
-
-    pub const LEAST_BASE: u64 = Memory::LEAST_BASE;
-
-    pub const MOST_END: u64 = Memory::MOST_END;
-
-    pub const MOST_ORDER: u64 = Memory::MOST_ORDER;
-
-    pub const MOST_AREAS: u64 = Memory::MOST_AREAS;
-
-    pub const MOST_NAME: u64 = Memory::MOST_NAME;
-
-    pub const MOST_ALIGNMENT: u64 = Memory::MOST_ALIGNMENT;
-
-    pub const MOST_BYTES: u64 = Memory::MOST_BYTES;
-
-    pub const PAGE_BYTES: u64 = Memory::PAGE_BYTES;
-
     // A fresh record: all zeros, so every call but boot refuses it as the wrong shape.
     pub fn fresh() -> Self
         ensures { λ r. ⌜ machineOf r ≡ freshMachine ⌝ }

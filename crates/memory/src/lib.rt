@@ -25,6 +25,8 @@ pub struct Memory {
 
 impl Memory {
     // The limits that a record and its calls keep to: document 01's first table.
+    pub const LEAST_FRAMES: u64 = 1;
+
     pub const MOST_FRAMES: u64 = 65536;
 
     pub const LEAST_BASE: u64 = 1;
@@ -35,11 +37,14 @@ impl Memory {
 
     pub const MOST_AREAS: u64 = 8;
 
+    pub const LEAST_NAME: u64 = 1;
+
     pub const MOST_NAME: u64 = 536870911;
 
     pub const MOST_ALIGNMENT: u64 = 16;
 
-    pub const MOST_BYTES: u64 = 281474976710656;
+    // The regions text keeps to it too.
+    pub const MOST_BYTES: u64 = regions::MOST_BYTES;
 
     pub const PAGE_BYTES: u64 = 4096;
 

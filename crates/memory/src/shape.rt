@@ -21,7 +21,7 @@ pub fn memory_right(base: Frame, frames: u64, order: u64) -> bool
     if first < Memory::LEAST_BASE {
         return false;
     }
-    if frames < 1 {
+    if frames < Memory::LEAST_FRAMES {
         return false;
     }
     if Memory::MOST_FRAMES < frames {

@@ -10,7 +10,7 @@ use native.Mathlib.Omega.{arith}
 use mathlib.Core.Path.{_≡_, sym, ap, subst, _∙_}
 use mathlib.Core.Bool.{true, false, not}
 use mathlib.Core.List.{List, _∷_}
-use lib.Dec.{ltb, eqb}
+use lib.Dec.{ltb}
 use lib.ListN.{length}
 use borrow.Author.Tests.{lt-ltb, le-ltb, ltb-true, ltb-false}
 use Rattle.search.specs.Search.{lowest}
@@ -23,7 +23,7 @@ use Rattle.frames.specs.Scans.{marked}
 use Rattle.frames.specs.Tables.{Tables, markAt}
 use Rattle.rules.specs.Record.{Machine, frameAt}
 use Rattle.pages.specs.declared.Found.the-variants.{At, Not}
-use Rattle.rules.specs.Limits.{mostName}
+use Rattle.rules.specs.Limits.{leastName, mostName}
 use Rattle.rules.specs.Shape.{shapeRight, shapeWrong}
 use Rattle.rules.specs.Outcomes.{Outcome, Check, _⇒_, refuse, checked}
 use Rattle.rules.specs.PageCalls.{badName, pageAt, isPlace, isLive, liveChecks}
@@ -168,7 +168,7 @@ module _ (m : Machine) (name : ℕ) (t : Tables) where
       record {
         right = s;
         shape = shape-known m t s;
-        name-high = ltb-false mostName name (or-right (eqb name 0) (ltb mostName name) b);
+        name-high = ltb-false mostName name (or-right (ltb name leastName) (ltb mostName name) b);
         pass = λ more o. checked-pass m t _ _ o (ap not s) ∙ checked-pass m t _ _ o b ∙ checked-pass m t _ _ o l;
       }
 

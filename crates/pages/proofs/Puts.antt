@@ -6,7 +6,8 @@ use native.Mathlib.Omega.{arith}
 use mathlib.Core.Path.{_≡_, refl, sym, ap, ap₂, _∙_}
 use mathlib.Core.Bool.{true, false, not, _||_}
 use lib.Dec.{eqb}
-use lib.ListN.{length}
+use mathlib.Core.List.{List}
+use lib.ListN.{length, set}
 use borrow.Author.Tests.{lt-ltb, le-ltb, eq-eqb, ne-eqb}
 use Rattle.search.specs.Choice.{if_then_else_}
 use Rattle.search.specs.Search.{lowest, lowestFrom}
@@ -18,7 +19,7 @@ use Rattle.frames.specs.declared.Place.{Place}
 use Rattle.frames.specs.Units.{frame, place}
 use Rattle.frames.specs.Marks.{hasKind, markOf, free, movable}
 use Rattle.frames.specs.Scans.{marked, isFreeOrdinary}
-use Rattle.frames.specs.Tables.{Tables, markAt, setPage}
+use Rattle.frames.specs.Tables.{Tables, tables, markAt, setPage, fill}
 use Rattle.rules.specs.Record.{Machine, frameAt}
 use Rattle.pages.specs.declared.Found.the-variants.{At, Not}
 use Rattle.rules.specs.Shape.{shapeRight}
@@ -103,11 +104,13 @@ module _ (kind : ℕ) (m : Machine) (name : ℕ) (t : Tables) where
       k .pass _ _ ∙ checked-stop m t _ _ _ (ap not (le-ltb (putAt kind m t .0) (m .frames) (omega (arith, k .shape .marks-length))))
 
   pub put-done : lookUp m name t ≡ Not 3 → (p : Place) → p ≡ putAt kind m t → p .0 < length (t .marks) → (mark : ℕ) → mark ≡ markOf name kind →
-      (f : Frame) → f ≡ frame (min (m .base .0 + p .0) 18446744073709551615) → putPage kind m name t ≡ outcome m (done (f .0) 0) (setPage t p mark 0)
-  unfolding putPage
-  put-done e p q h mark v f w =
+      (words : List ℕ) → words ≡ fill (t .words) (p .0) 1 0 → (f : Frame) → f ≡ frame (min (m .base .0 + p .0) 18446744073709551615) →
+      putPage kind m name t ≡ outcome m (done (f .0) 0) (tables (set (t .marks) (p .0) mark) words (t .bitmap))
+  unfolding putPage fill
+  put-done e p q h mark v words x f w =
       let k = looked-missing m name t e in
       k .pass _ _ ∙
       checked-pass m t _ _ _ (ap not (lt-ltb (putAt kind m t .0) (m .frames) (omega (arith, k .shape .marks-length, ap (λ (x : Place). x .0) q)))) ∙
       checked-end m t _ ∙ ap₂ (λ x y. outcome m (done (frameAt m x .0) 0) (setPage t x y 0)) (sym q) (sym v) ∙
-      ap (λ (g : Frame). outcome m (done (g .0) 0) (setPage t p mark 0)) (sym (w ∙ frame-inside (k .shape) p (omega (arith, k .shape .marks-length))))
+      ap₂ (λ (g : Frame) (ws : List ℕ). outcome m (done (g .0) 0) (tables (set (t .marks) (p .0) mark) ws (t .bitmap)))
+      (sym (w ∙ frame-inside (k .shape) p (omega (arith, k .shape .marks-length)))) (sym x)

@@ -38,7 +38,7 @@ enum Found {
 fn is_bad_name(name: u64) -> bool
     ensures { λ r. ⌜ r ≡ badName name ⌝ }
 {
-    if name == 0 {
+    if name < Memory::LEAST_NAME {
         return true;
     }
     Memory::MOST_NAME < name
@@ -98,7 +98,7 @@ fn put_new(
         return Answer::refused(refusal::NO_FRAME);
     }
     marks[at] = name as u32 * 8 + kind;
-    words[at] = EMPTY;
+    fill_words(words, page, 1, EMPTY);
     let base = memory.base;
     let frame = frame_at(base, page);
     Answer::done(frame.0, 0)
@@ -267,10 +267,10 @@ pub fn read_page(memory: Memory, marks: &[u32], words: &[u64], bitmap: &[u64], n
     match found {
         Found::Not(number) => Answer::refused(number),
         Found::At(page) => {
-            let at = page.0;
             let base = memory.base;
             let frame = frame_at(base, page);
-            Answer::done(frame.0, words[at])
+            let place = page.0;
+            Answer::done(frame.0, words[place])
         }
     }
 }

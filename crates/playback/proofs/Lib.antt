@@ -2,4 +2,6 @@ pub mod ByKind
 pub mod Lending
 pub mod Ran
 pub mod Records
+pub mod ReplayExamples
+pub mod WholeOutput
 pub mod Within

@@ -27,7 +27,7 @@ written-least : (out : List ℕ) (at : ℕ) (text : List ℕ) → at ≤ length 
 unfolding written
 written-least out at text h = simp (length-append, length-take) (omega arith)
 
-one-text : (s : Playing) (r : Record) (n : ℕ) → s .progress .text ≤ length (s .out) → answerOne s r n .progress .text ≤ length (answerOne s r n .out)
+pub one-text : (s : Playing) (r : Record) (n : ℕ) → s .progress .text ≤ length (s .out) → answerOne s r n .progress .text ≤ length (answerOne s r n .out)
 unfolding answerOne
 one-text s r n h = written-least (s .out) (s .progress .text) _ h
 

@@ -1,1 +1,3 @@
 pub mod Playback
+pub mod Replay
+pub mod ReplayExamples

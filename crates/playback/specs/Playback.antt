@@ -6,7 +6,6 @@ use lib.ListN.{length, take, drop}
 use lib.Dec.{ltb, leb}
 use Rattle.search.specs.Choice.{if_then_else_}
 use Rattle.answer.specs.declared.Answer.{Answer}
-use Rattle.frames.specs.Units.{frame}
 use Rattle.frames.specs.Tables.{Tables, tables}
 use Rattle.rules.specs.Record.{Machine}
 use Rattle.rules.specs.Outcomes.{Outcome, outcome, refuse}
@@ -43,7 +42,7 @@ kindOf (Declare base size limit alignment order fixed) = 12
 
 -- the call that a record stands for; a boot has the empty text
 abbrev pub callOf : Record → Call
-callOf (Boot base frames order) = boot base frames order []
+callOf (Boot base frames order) = boot (base .0) frames order []
 callOf (PutMovable name) = putMovable name
 callOf (PutFixed name) = putFixed name
 callOf (Drop name) = dropPage name
@@ -52,9 +51,9 @@ callOf (Unpin name) = unpinPage name
 callOf (Store name word) = storePage name word
 callOf (Read name) = readPage name
 callOf (Grant area order count) = grant area count order
-callOf (Release area f count) = release area (frame f) count
-callOf (DeviceStore f word) = deviceStore (frame f) word
-callOf (DeviceRead f) = deviceRead (frame f)
+callOf (Release area f count) = release area f count
+callOf (DeviceStore f word) = deviceStore f word
+callOf (DeviceRead f) = deviceRead f
 callOf (Declare base size limit alignment order fixed) =
     declare record { base = base; size = size; limit = limit; alignment = alignment; order = order; fixed = fixed }
 

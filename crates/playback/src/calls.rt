@@ -10,7 +10,6 @@ ghost use Rattle.playback.specs.Playback.{kindOf, callOf, framesFor, ans
 use answer::Answer;
 use answer::refusal;
 use areas::Request;
-use frames::Frame;
 use machine::Machine;
 use machine::Returned;
 use records::Record;
@@ -89,12 +88,12 @@ fn device_call(
             machine.grant(marks, words, bitmap, area, count, order)
         }
         Record::Release { area, frame, count } => {
-            machine.release(marks, words, bitmap, area, Frame(frame), count)
+            machine.release(marks, words, bitmap, area, frame, count)
         }
         Record::DeviceStore { frame, word } => {
-            machine.device_store(marks, words, bitmap, Frame(frame), word)
+            machine.device_store(marks, words, bitmap, frame, word)
         }
-        Record::DeviceRead { frame } => machine.device_read(marks, words, bitmap, Frame(frame)),
+        Record::DeviceRead { frame } => machine.device_read(marks, words, bitmap, frame),
         _ => declare_call(marks, words, bitmap, machine, item),
     }
 }
@@ -134,7 +133,7 @@ fn call(
             base,
             frames,
             order,
-        } => machine.boot(marks, words, bitmap, Frame(base), frames, order, b""),
+        } => machine.boot(marks, words, bitmap, base, frames, order, b""),
         Record::PutMovable { name } => machine.put_movable(marks, words, bitmap, name),
         Record::PutFixed { name } => machine.put_fixed(marks, words, bitmap, name),
         Record::Drop { name } => machine.drop_page(marks, words, bitmap, name),

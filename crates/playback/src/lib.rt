@@ -7,6 +7,7 @@ ghost use Rattle.frames.specs.Tables.{tables};
 ghost use Rattle.playback.specs.Playback.{stoppedAt, hasRoomFor, playing, answerOne, played, answerRecords};
 
 mod calls;
+pub mod held;
 
 pub use calls::answer;
 use machine::Machine;

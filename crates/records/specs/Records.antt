@@ -5,6 +5,7 @@ use mathlib.Core.List.{List, [], _∷_}
 use lib.ListN.{length, getD}
 use lib.Dec.{ltb, leb, eqb}
 use Rattle.search.specs.Choice.{if_then_else_}
+use Rattle.frames.specs.Units.{frame}
 use Rattle.records.specs.declared.Record.{Record}
 use Rattle.records.specs.declared.Record.the-variants.{Boot, PutMovable, PutFixed, Drop, Pin, Unpin, Store, Read, Grant, Release, DeviceStore, DeviceRead, Declare}
 use Rattle.records.specs.declared.Decoded.{Decoded}
@@ -39,7 +40,7 @@ named f = body (u32 ∷ []) (λ n. f (n 0))
 -- the bodies by kind, 0 to 12
 unfoldable pub bodies : List Body
 bodies =
-    body (u64 ∷ u32 ∷ u8 ∷ []) (λ n. Boot (n 0) (n 1) (n 2)) ∷
+    body (u64 ∷ u32 ∷ u8 ∷ []) (λ n. Boot (frame (n 0)) (n 1) (n 2)) ∷
     named PutMovable ∷
     named PutFixed ∷
     named Drop ∷
@@ -48,9 +49,9 @@ bodies =
     body (u32 ∷ u64 ∷ []) (λ n. Store (n 0) (n 1)) ∷
     named Read ∷
     body (u8 ∷ u8 ∷ u32 ∷ []) (λ n. Grant (n 0) (n 1) (n 2)) ∷
-    body (u8 ∷ u64 ∷ u32 ∷ []) (λ n. Release (n 0) (n 1) (n 2)) ∷
-    body (u64 ∷ u64 ∷ []) (λ n. DeviceStore (n 0) (n 1)) ∷
-    body (u64 ∷ []) (λ n. DeviceRead (n 0)) ∷
+    body (u8 ∷ u64 ∷ u32 ∷ []) (λ n. Release (n 0) (frame (n 1)) (n 2)) ∷
+    body (u64 ∷ u64 ∷ []) (λ n. DeviceStore (frame (n 0)) (n 1)) ∷
+    body (u64 ∷ []) (λ n. DeviceRead (frame (n 0))) ∷
     body (u64 ∷ u64 ∷ u64 ∷ u64 ∷ u8 ∷ u8 ∷ []) (λ n. Declare (n 0) (n 1) (n 2) (n 3) (n 4) (not (eqb (n 5) 0))) ∷
     []
 

@@ -6,10 +6,12 @@ ghost use Rattle.records.specs.Records.{little, bodyLength, bodyAt, deco
 
 pub mod lines;
 
+use frames::Frame;
+
 // A record's kind with the numbers of its body.
 pub enum Record {
     Boot {
-        base: u64,
+        base: Frame,
         frames: u64,
         order: u64,
     },
@@ -42,15 +44,15 @@ pub enum Record {
     },
     Release {
         area: u64,
-        frame: u64,
+        frame: Frame,
         count: u64,
     },
     DeviceStore {
-        frame: u64,
+        frame: Frame,
         word: u64,
     },
     DeviceRead {
-        frame: u64,
+        frame: Frame,
     },
     Declare {
         base: u64,
@@ -114,7 +116,7 @@ fn boot(bytes: &[u8], at: usize) -> Record
     ensures { λ r. ⌜ r ≡ bodyAt 0 (now (bytes .entry)) at ⌝ }
 {
     Record::Boot {
-        base: number(bytes, at, 8),
+        base: Frame(number(bytes, at, 8)),
         frames: number(bytes, at + 8, 4),
         order: number(bytes, at + 12, 1),
     }
@@ -147,7 +149,7 @@ fn release(bytes: &[u8], at: usize) -> Record
 {
     Record::Release {
         area: number(bytes, at, 1),
-        frame: number(bytes, at + 1, 8),
+        frame: Frame(number(bytes, at + 1, 8)),
         count: number(bytes, at + 9, 4),
     }
 }
@@ -157,7 +159,7 @@ fn device_store(bytes: &[u8], at: usize) -> Record
     ensures { λ r. ⌜ r ≡ bodyAt 10 (now (bytes .entry)) at ⌝ }
 {
     Record::DeviceStore {
-        frame: number(bytes, at, 8),
+        frame: Frame(number(bytes, at, 8)),
         word: number(bytes, at + 8, 8),
     }
 }
@@ -206,7 +208,7 @@ fn body(bytes: &[u8], at: usize, kind: u8) -> Record
         9 => release(bytes, at),
         10 => device_store(bytes, at),
         11 => Record::DeviceRead {
-            frame: number(bytes, at, 8),
+            frame: Frame(number(bytes, at, 8)),
         },
         _ => declare(bytes, at),
     }

@@ -2,26 +2,28 @@
 --     held-outcome, holding-outcome    what a list of regions holds is the regions
 --     added                            one region more
 --     from-end, from-full, from-next   the text ends here; nothing more can be held; the next region
---     ended                            where the text ends, the regions read are its answer
---     turn-refused, turn-given, grown, turned    a turn of the loop: the next region is refused; it is added
+--     one-end, one-full, one-next      the same of one region more
+--     begins, reads-on, reads-end    reading a text: it begins, goes on by one region more with fewer turns left, and ends with what the text gives
 use Prim.Native.Nat.{ℕ, zero, suc, _+_, _-_, _≤_, _<_}
 use native.Mathlib.Omega.{arith}
 use mathlib.Core.Path.{_≡_, refl, sym, ap, _∙_}
+use mathlib.Core.Bool.{Bool, true, false, false≢true}
 use mathlib.Core.List.{List, [], _∷_, _++_}
-use lib.Dec.{eqb}
+use lib.Dec.{eqb, leb, ltb}
 use lib.ListN.{length, set, replicate, length-append}
 use lib.Seq.{take-append-seam, set-append-seam, append-snoc}
-use borrow.Author.Tests.{eq-eqb, ne-eqb, eqb-true}
+use borrow.Author.Tests.{eq-eqb, ne-eqb, eqb-true, eqb-false, le-leb, lt-leb, leb-true, leb-false}
 use Rattle.search.specs.Choice.{if_then_else_}
 use Rattle.search.proofs.Bools.{by-cases}
 use Rattle.regions.specs.declared.Region.{Region}
 use Rattle.regions.specs.declared.Regions.{Regions}
+use Rattle.regions.specs.declared.list.Progress.{Progress}
 use Rattle.regions.specs.Reading.{Read, gives, refuses, _then_}
 use Rattle.regions.specs.Amounts.{byteAt}
-use Rattle.regions.specs.Text.{expect, region, regionsFrom}
+use Rattle.regions.specs.Text.{expect, region, regionsFrom, regions}
 use Rattle.regions.specs.Steps.{separatedFrom, nextRegion}
 use Rattle.regions.proofs.Sequence.{then-given, then-refused}
-use Rattle.regions.specs.Outcome.{noRegion, padded, outcome, held, Holding}
+use Rattle.regions.specs.Outcome.{noRegion, padded, outcome, held, Holding, finished, begun, afterRegion, oneMore}
 
 pub held-outcome : (rs : List Region) → held (outcome (gives rs 0)) ≡ rs
 held-outcome rs = take-append-seam rs (replicate (8 - length rs) noRegion)
@@ -51,7 +53,13 @@ snoc rs r number place count list p q n l h =
 pub added : (known : Regions) (r : Region)
     → Holding known
     → known .count < 8
-    → _≡_ {A = Regions} (record { refusal = known .refusal; place = known .place; count = known .count + 1; list = set (known .list) (known .count) r })
+    → _≡_ {A = Regions} (record {
+      refusal = known .refusal;
+      place = known .place;
+      count = known .count + 1;
+      list = set (known .list) (known .count)
+          r;
+    })
     (outcome (gives (held known ++ (r ∷ [])) 0))
 added known r h few =
     snoc (held known) r (known .refusal) (known .place) (known .count) (known .list) (ap (λ (k : Regions). k .refusal) (h .whole))
@@ -88,46 +96,105 @@ module _ (s : List ℕ) where
     unfolding regionsFrom nextRegion
     from-next at e = rw (ne-eqb at (length s) e) (steps (region before s at))
 
--- the text ends here
-pub ended : (s : List ℕ) (known : Regions) (more at : ℕ) (answer : Read (List Region))
-    → Holding known
-    → regionsFrom more (held known) s at ≡ answer
-    → at ≡ length s
-    → known ≡ outcome answer
-ended s known more at answer h e end = h .whole ∙ ap outcome (sym (from-end s more (held known) at end) ∙ e)
+-- one region more: the text ends here; nothing more can be held; what the next region gives
+module _ (s : List ℕ) (known : Regions) (at : ℕ) where
+  pub one-end : at ≡ length s → oneMore known s at ≡ finished known
+  unfolding oneMore
+  one-end e = rw (eq-eqb at (length s) e)
 
-count-held : (known : Regions) → Holding known → known .count ≡ length (held known)
-count-held known h = ap (λ (k : Regions). k .count) (h .whole)
+  module _ (inside : at ≡ length s → ⊥) where
+    pub one-full : 8 ≤ known .count → oneMore known s at ≡ finished (outcome (refuses 23 at))
+    unfolding oneMore
+    one-full full = rw (ne-eqb at (length s) inside, le-leb 8 (known .count) full)
 
--- a turn of the loop that reads the regions
-module _ (s : List ℕ) (known : Regions) (at : ℕ) (few : known .count < 8) (inside : at ≡ length s → ⊥) where
-  one-more : regionsFrom (8 - known .count) (held known) s at ≡ (nextRegion (held known) s at then rest s (8 - (known .count + 1)) (held known))
-  one-more =
-      let more : 8 - known .count ≡ suc (8 - (known .count + 1)) = omega arith in
-      rw more (from-next s (8 - (known .count + 1)) (held known) at inside)
+    pub one-next : known .count < 8 → oneMore known s at ≡ afterRegion (held known) (nextRegion (held known) s at)
+    unfolding oneMore
+    one-next few = rw (ne-eqb at (length s) inside, lt-leb 8 (known .count) few)
 
-  pub turn-refused : (number place : ℕ) → nextRegion (held known) s at ≡ refuses number place → regionsFrom (8 - known .count) (held known) s at ≡ refuses number place
-  turn-refused number place e = one-more ∙ then-refused (nextRegion (held known) s at) (rest s (8 - (known .count + 1)) (held known)) number place e
+-- what reading on from here gives in the end, and how many turns it takes at the most
+abbrev onward : Bool → List ℕ → Progress → Regions
+onward more s p = if more then outcome (regionsFrom (8 - p .known .count) (held (p .known)) s (p .next)) else p .known
 
-  pub turn-given : (r : Region) (next : ℕ)
-      → nextRegion (held known) s at ≡ gives r next
-      → regionsFrom (8 - known .count) (held known) s at ≡ regionsFrom (8 - (known .count + 1)) (held known ++ (r ∷ [])) s next
-  turn-given r next e = one-more ∙ then-given (nextRegion (held known) s at) (rest s (8 - (known .count + 1)) (held known)) r next e
+abbrev pub comesTo : List ℕ → Progress → Regions
+comesTo s p = onward (p .more) s p
 
--- the list grows by one
-pub grown : (known new : Regions) (r : Region) → Holding known → new ≡ outcome (gives (held known ++ (r ∷ [])) 0) → new .count ≡ known .count + 1
-grown known new r h e =
-    ap (λ (k : Regions). k .count) e ∙ length-snoc (held known) r ∙ ap (λ (n : ℕ). n + 1) (sym (count-held known h))
+abbrev pub turnsLeft : Progress → ℕ
+turnsLeft p = if p .more then 9 - p .known .count else 0
 
-pub turned : (s : List ℕ) (known new : Regions) (r : Region) (next : ℕ) (answer : Read (List Region))
-    → Holding known
-    → known .count < 8
-    → new ≡ outcome (gives (held known ++ (r ∷ [])) 0)
-    → regionsFrom (8 - (known .count + 1)) (held known ++ (r ∷ [])) s next ≡ answer
-    → Holding new × (regionsFrom (8 - new .count) (held new) s next ≡ answer)
-turned s known new r next answer h few e rest-of =
-    let size : length (held known ++ (r ∷ [])) ≡ known .count + 1 = sym (ap (λ (k : Regions). k .count) e) ∙ grown known new r h e in
-    rw e (
-      holding-outcome (held known ++ (r ∷ [])) (omega arith),
-      rw (held-outcome (held known ++ (r ∷ [])), size) rest-of,
-    )
+-- one region more leaves what the text gives as it was, with fewer turns left
+pub record Turned (s : List ℕ) (known : Regions) (at : ℕ) (p : Progress) : Type 0 where
+  pub comes : comesTo s p ≡ outcome (regionsFrom (8 - known .count) (held known) s at)
+  pub holding : p .more ≡ true → Holding (p .known)
+  pub less : turnsLeft p < 9 - known .count
+
+module _ (s : List ℕ) (known : Regions) (at : ℕ) (h : Holding known) where
+  ends : (answer : Regions) → answer ≡ outcome (regionsFrom (8 - known .count) (held known) s at) → Turned s known at (finished answer)
+  ends answer e = record { comes = e; holding = λ no. absurd (false≢true no); less = let few = h .few in omega arith }
+
+  module _ (few : known .count < 8) (inside : at ≡ length s → ⊥) where
+    count-held : known .count ≡ length (held known)
+    count-held = ap (λ (k : Regions). k .count) (h .whole)
+
+    next : regionsFrom (8 - known .count) (held known) s at ≡ (nextRegion (held known) s at then rest s (8 - (known .count + 1)) (held known))
+    next =
+        let more : 8 - known .count ≡ suc (8 - (known .count + 1)) = omega arith in
+        rw more (from-next s (8 - (known .count + 1)) (held known) at inside)
+
+    after : (x : Read Region) → nextRegion (held known) s at ≡ x → Turned s known at (afterRegion (held known) x)
+    after (refuses number place) e =
+        ends (outcome (refuses number place))
+        (ap outcome (sym (next ∙ then-refused (nextRegion (held known) s at) (rest s (8 - (known .count + 1)) (held known)) number place e)))
+    after (gives r place) e =
+        let size : length (held known ++ (r ∷ [])) ≡ known .count + 1 = length-snoc (held known) r ∙ ap (λ (n : ℕ). n + 1) (sym count-held) in
+        let on : regionsFrom (8 - (known .count + 1)) (held known ++ (r ∷ [])) s place ≡ regionsFrom (8 - known .count) (held known) s at =
+        sym (next ∙ then-given (nextRegion (held known) s at) (rest s (8 - (known .count + 1)) (held known)) r place e) in
+        record {
+          comes = rw (held-outcome (held known ++ (r ∷ [])), size) (ap outcome on);
+          holding = λ _. holding-outcome (held known ++ (r ∷ [])) (omega arith);
+          less = omega arith;
+        }
+
+  pub turned : Turned s known at (oneMore known s at)
+  turned =
+      by-cases (eqb at (length s))
+      (λ e.
+      let end : at ≡ length s = eqb-true at (length s) e in
+      rw (one-end s known at end) (ends known (h .whole ∙ ap outcome (sym (from-end s (8 - known .count) (held known) at end)))))
+      (λ e.
+      let inside : at ≡ length s → ⊥ = eqb-false at (length s) e in
+      by-cases (leb 8 (known .count))
+      (λ f.
+      let none : 8 - known .count ≡ 0 = omega (arith, leb-true 8 (known .count) f) in
+      rw (one-full s known at inside (leb-true 8 (known .count) f))
+      (ends (outcome (refuses 23 at)) (rw none (ap outcome (sym (from-full s (held known) at inside))))))
+      (λ f.
+      let few : known .count < 8 = leb-false 8 (known .count) f in
+      rw (one-next s known at inside few) (after few inside (nextRegion (held known) s at) refl)))
+
+-- the text is being read: what it gives is what reading on gives
+pub record Reading (s : List ℕ) (p : Progress) : Type 0 where
+  pub comes : comesTo s p ≡ outcome (regions s)
+  pub holding : p .more ≡ true → Holding (p .known)
+
+pub begins : (s : List ℕ) → Reading s (begun s)
+unfolding regions
+begins s =
+    by-cases (ltb 1024 (length s))
+    (λ e.
+    let refused : regions s ≡ refuses 24 1024 = rw e in
+    rw e (record { comes = ap outcome (sym refused); holding = λ no. absurd (false≢true no) }))
+    (λ e.
+    let all : regions s ≡ regionsFrom 8 [] s 0 = rw e in
+    rw e (record { comes = ap outcome (sym all); holding = λ _. record { few = omega arith; whole = refl } }))
+
+module _ (s : List ℕ) (p : Progress) (reading : Reading s p) where
+  either : (b : Bool) → p .more ≡ b → onward b s p ≡ outcome (regions s)
+  either b e = ap (λ (t : Bool). onward t s p) (sym e) ∙ reading .comes
+
+  pub reads-on : p .more ≡ true → Reading s (oneMore (p .known) s (p .next)) × (turnsLeft (oneMore (p .known) s (p .next)) < turnsLeft p)
+  reads-on more =
+      let t = turned s (p .known) (p .next) (reading .holding more) in
+      (record { comes = t .comes ∙ either true more; holding = t .holding }, rw more (t .less))
+
+  pub reads-end : p .more ≡ false → p .known ≡ outcome (regions s)
+  reads-end stops = either false stops

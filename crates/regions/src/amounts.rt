@@ -21,7 +21,7 @@ pub enum Purpose {
     Alignment,
 }
 
-const MOST_BYTES: u64 = 281474976710656;
+pub const MOST_BYTES: u64 = 281474976710656;
 
 // A number above 2^48.
 const TOO_MUCH: u64 = 281474976710657;

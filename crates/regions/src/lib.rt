@@ -1,7 +1,7 @@
 // The regions text: which areas a boot declares.
 ghost use mathlib.Core.Path.{_≡_};
 ghost use Rattle.regions.specs.Amounts.{isAlignment};
-ghost use Rattle.regions.specs.Outcome.{outcome, regionsAt};
+ghost use Rattle.regions.specs.Outcome.{outcome, Holding, begun, oneMore};
 ghost use Rattle.regions.specs.Text.{regions};
 
 mod amounts;
@@ -9,6 +9,9 @@ mod bytes;
 mod list;
 mod names;
 mod parts;
+
+pub use amounts::MOST_BYTES;
+use list::Progress;
 
 // A region of the text: where its name stands and how long it is, and its amounts in bytes; an amount that is not given is 0.
 pub struct Region {
@@ -44,31 +47,42 @@ pub fn is_alignment(x: u64) -> bool
     false
 }
 
-// A reader of regions: it keeps hold of the text and of the offset where it reads on.
-pub struct Reader<'a> {
-    pub text: &'a [u8],
-    pub at: usize,
+// A reader of regions: it keeps hold of the text and of how far it has read it, so of its place, the offset where it reads on.
+struct Reader<'a> {
+    text: &'a [u8],
+    progress: Progress,
 }
 
 impl<'a> Reader<'a> {
-    // A reader at the first byte of a text.
-    pub fn new(text: &'a [u8]) -> Reader<'a>
-        ensures { λ r. ⌜ (r .text ≡ text .entry) × (r .at ≡ 0) ⌝ }
+    // A reader at the first byte of a text, whose length is judged before.
+    fn new(text: &'a [u8]) -> Reader<'a>
+        ensures { λ r. ⌜ (r .text ≡ text .entry) × (r .progress ≡ begun (now (text .entry))) ⌝ }
     {
-        Reader { text, at: 0 }
+        let progress = list::begun(text);
+        Reader { text, progress }
     }
 
-    // All regions from the reader's offset on.
-    pub fn read(self) -> Regions
-        ensures { λ r. ⌜ r ≡ regionsAt (now (self .entry .text)) (self .entry .at) ⌝ }
+    // Reads one region from the reader's place. The reader comes back at the next place, with the region among those that it has read.
+    fn read_on(self) -> Reader<'a>
+        requires { ⌜ Holding (self .progress .known) ⌝ }
+        ensures { λ r. ⌜ (r .text ≡ self .entry .text)
+            × (r .progress ≡ oneMore (self .entry .progress .known) (now (self .entry .text)) (self .entry .progress .next)) ⌝ }
     {
-        list::list_at(self.text, self.at)
+        let progress = list::one_more(self.text, self.progress.next, self.progress.known);
+        Reader {
+            text: self.text,
+            progress,
+        }
     }
 }
 
-// The regions of a text. Its caller needs to know of no reader.
+// The regions of a text. The reader reads on, one region after the other, for as long as there is more to read.
 pub fn read_regions(text: &[u8]) -> Regions
     ensures { λ r. ⌜ r ≡ outcome (regions (now (text .entry))) ⌝ }
 {
-    Reader::new(text).read()
+    let mut reader = Reader::new(text);
+    while reader.progress.more {
+        reader = reader.read_on();
+    }
+    reader.progress.known
 }

@@ -3,9 +3,8 @@ ghost use mathlib.Core.Path.{_≡_};
 ghost use mathlib.Core.List.{[], _∷_, _++_};
 ghost use Prim.Native.Nat.{_<_, _≤_};
 ghost use Rattle.regions.specs.Reading.{gives, refuses};
-ghost use Rattle.regions.specs.Text.{regionsFrom};
 ghost use Rattle.regions.specs.Steps.{regionRead, separatedFrom, nextRegion};
-ghost use Rattle.regions.specs.Outcome.{held, Holding, outcome, noRegion, regionsAt};
+ghost use Rattle.regions.specs.Outcome.{held, Holding, outcome, noRegion, finished, begun, oneMore};
 use crate::Region;
 use crate::Regions;
 use crate::bytes::byte_at;
@@ -65,7 +64,7 @@ fn refused(number: u64, place: usize) -> Regions
     }
 }
 
-// One region more.
+// The regions, with one more after them.
 fn with(known: Regions, region: Region) -> Regions
     requires { ⌜ (known .count < 8) × (Holding known) ⌝ }
     ensures { λ r. ⌜ r ≡ outcome (gives (held known ++ (region ∷ [])) 0) ⌝ }
@@ -77,35 +76,58 @@ fn with(known: Regions, region: Region) -> Regions
     more
 }
 
-fn list_from(text: &[u8], at: usize) -> Regions
-    ensures { λ r. ⌜ r ≡ outcome (regionsFrom 8 [] (now (text .entry)) at) ⌝ }
+// How far a text is read: the regions so far and where the next is read from, or, with no more to read, what the text gives.
+pub struct Progress {
+    pub known: Regions,
+    pub next: usize,
+    pub more: bool,
+}
+
+fn finished(known: Regions) -> Progress
+    ensures { λ r. ⌜ r ≡ finished known ⌝ }
 {
-    let mut known = refused(refusal::NONE, 0);
-    let mut next = at;
-    while known.count < MOST_REGIONS {
-        if next == text.len() {
-            return known;
-        }
-        match next_region(text, next, known) {
-            Found::Refuses(refusal, place) => return refused(refusal, place),
-            Found::Gives(region, after) => {
-                known = with(known, region);
-                next = after;
+    Progress {
+        known,
+        next: 0,
+        more: false,
+    }
+}
+
+// Before the first region the text's length is judged.
+pub fn begun(text: &[u8]) -> Progress
+    ensures { λ r. ⌜ r ≡ begun (now (text .entry)) ⌝ }
+{
+    if MOST_TEXT < text.len() {
+        return finished(refused(refusal::TEXT_TOO_LONG, MOST_TEXT));
+    }
+    let known = refused(refusal::NONE, 0);
+    Progress {
+        known,
+        next: 0,
+        more: true,
+    }
+}
+
+// One region more, read from an offset, unless the text ends there or is refused.
+pub fn one_more(text: &[u8], at: usize, known: Regions) -> Progress
+    requires { ⌜ Holding known ⌝ }
+    ensures { λ r. ⌜ r ≡ oneMore known (now (text .entry)) at ⌝ }
+{
+    if at == text.len() {
+        return finished(known);
+    }
+    if MOST_REGIONS <= known.count {
+        return finished(refused(refusal::TOO_MANY_REGIONS, at));
+    }
+    match next_region(text, at, known) {
+        Found::Refuses(refusal, place) => finished(refused(refusal, place)),
+        Found::Gives(region, next) => {
+            let known = with(known, region);
+            Progress {
+                known,
+                next,
+                more: true,
             }
         }
     }
-    if next == text.len() {
-        return known;
-    }
-    refused(refusal::TOO_MANY_REGIONS, next)
-}
-
-// The regions of a text from an offset on.
-pub fn list_at(text: &[u8], at: usize) -> Regions
-    ensures { λ r. ⌜ r ≡ regionsAt (now (text .entry)) at ⌝ }
-{
-    if MOST_TEXT < text.len() {
-        return refused(refusal::TEXT_TOO_LONG, MOST_TEXT);
-    }
-    list_from(text, at)
 }

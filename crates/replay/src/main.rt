@@ -11,6 +11,7 @@ use libc::STDOUT_FILENO;
 use machine::Machine;
 use playback::Progress;
 use playback::Stop;
+use playback::held;
 use records::lines;
 
 // A proved loop has to end, and nothing says that the input does: so the loop has a budget of turns, which no run uses up, and of which each
@@ -235,9 +236,9 @@ fn write_heading() {
 fn main() {
     let mut input = [0u8; 65536];
     let mut out = [0u8; 65536];
-    let mut marks = [0u32; 2048];
-    let mut words = [0u64; 2048];
-    let mut bitmap = [0u64; 40];
+    let mut marks = held::marks();
+    let mut words = held::words();
+    let mut bitmap = held::bitmap();
     write_heading();
     let mut s = start();
     while s.left > 0 {

@@ -3,7 +3,7 @@ use Prim.Native.Nat.{ℕ}
 use native.Mathlib.Omega.{arith}
 use mathlib.Core.Bool.{true, _&&_}
 use mathlib.Core.Path.{_≡_, _∙_}
-use lib.ListN.{length, replicate, length-replicate}
+use lib.ListN.{length, length-replicate}
 use Rattle.search.proofs.Bools.{and-left, and-right}
 use Rattle.search.proofs.Ranges.{every-none}
 use Rattle.frames.specs.Areas.{firstWord}

@@ -3,7 +3,9 @@
 --     checked-first, checked-passed what a call does then
 --     first-or-passed               one of the two is so
 --     checked-cases                 what holds of a refusal, and of the call where it passed, holds of what the call does
+--     accepted-does, accepted-passed    a call that is accepted has passed every check
 use Prim.Native.Nat.{ℕ, _<_}
+use native.Mathlib.Omega.{arith}
 use mathlib.Core.Path.{_≡_, refl, _∙_}
 use mathlib.Core.Bool.{Bool, true, false, _&&_}
 use mathlib.Core.List.{List, [], _∷_}
@@ -12,7 +14,7 @@ use borrow.Author.Tests.{ltb-true}
 use Rattle.search.proofs.Bools.{by-cases, and-left, and-right}
 use Rattle.frames.specs.Tables.{Tables}
 use Rattle.rules.specs.Record.{Machine}
-use Rattle.rules.specs.Outcomes.{Outcome, outcome, Check, refuse, checked, First, here, there, Passed}
+use Rattle.rules.specs.Outcomes.{Outcome, Check, refuse, checked, First, here, there, Passed}
 
 module _ (m : Machine) (t : Tables) where
   pub checked-stop : (c : Check) (cs : List Check) (o : Outcome) → c .holds ≡ true → checked m t (c ∷ cs) o ≡ refuse m t (c .number)
@@ -58,3 +60,14 @@ checked-cases P m t [] o nums refused passed = passed tt
 checked-cases P m t (c ∷ cs) o nums refused passed =
     by-cases (c .holds) (λ e. rw e (refused (c .number) (ltb-true 0 (c .number) (and-left (ltb 0 (c .number)) (numbered cs) nums))))
     (λ e. rw e (checked-cases P m t cs o (and-right (ltb 0 (c .number)) (numbered cs) nums) refused (λ rest. passed (e, rest))))
+
+-- what holds of the call where it passed holds of what it does where it is accepted
+pub accepted-does :
+    (P : Outcome → Type 0) (m : Machine) (t : Tables) (cs : List Check) (o : Outcome) →
+    numbered cs ≡ true → checked m t cs o .answer .refusal ≡ 0 → (Passed cs → P o) → P (checked m t cs o)
+accepted-does P m t cs o nums accepted does =
+    checked-cases (λ x. x .answer .refusal ≡ 0 → P x) m t cs o nums (λ number h e. absurd (omega arith)) (λ passed e. does passed) accepted
+
+pub accepted-passed :
+    (m : Machine) (t : Tables) (cs : List Check) (o : Outcome) → numbered cs ≡ true → checked m t cs o .answer .refusal ≡ 0 → Passed cs
+accepted-passed m t cs o nums accepted = accepted-does (λ _. Passed cs) m t cs o nums accepted (λ passed. passed)

@@ -1,10 +1,14 @@
+pub mod AllPromises
 pub mod AreaRight
 pub mod BareShape
 pub mod Checks
 pub mod Divisions
+pub mod EachCall
 pub mod NewArea
+pub mod Placed
 pub mod Placement
 pub mod Rounding
+pub mod Says
 pub mod ShapeFacts
 pub mod Shapes
 pub mod ledger

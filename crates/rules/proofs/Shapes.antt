@@ -1,5 +1,5 @@
 -- What the shape's tests say, as facts. Assumes nothing.
-use Prim.Native.Nat.{ℕ, _+_, _^_, _≤_, _<_}
+use Prim.Native.Nat.{ℕ, _+_, _≤_, _<_}
 use native.Mathlib.Omega.{arith}
 use mathlib.Core.Path.{_≡_}
 use mathlib.Core.Bool.{Bool, true, _&&_}
@@ -9,16 +9,15 @@ use borrow.Author.Tests.{leb-true, eqb-true}
 use Rattle.search.specs.Search.{every}
 use Rattle.search.proofs.Bools.{and-left, and-right}
 use Rattle.search.proofs.Ranges.{every-all}
-use Rattle.frames.specs.Areas.{endOf, areDisjoint, isMultiple}
 use Rattle.frames.specs.Tables.{Tables}
-use Rattle.rules.specs.Record.{Machine, areaAt, endFrame}
-use Rattle.rules.specs.Limits.{leastBase, mostFrames, mostEnd, mostOrder, mostAreas}
-use Rattle.rules.specs.Shape.{memoryRight, lengthsRight, areaRight, areaFits, wordsNeeded, shapeRight}
+use Rattle.rules.specs.Record.{Machine}
+use Rattle.rules.specs.Limits.{leastFrames, leastBase, mostFrames, mostEnd, mostOrder, mostAreas}
+use Rattle.rules.specs.Shape.{memoryRight, lengthsRight, areaFits, wordsNeeded, shapeRight}
 
 -- the first frame, the number of frames and the block order keep to their limits
 pub record Memory (base frames order : ℕ) : Type 0 where
   pub base-low : leastBase ≤ base
-  pub frames-low : 1 ≤ frames
+  pub frames-low : leastFrames ≤ frames
   pub frames-high : frames ≤ mostFrames
   pub end-high : base + frames ≤ mostEnd
   pub order-high : order ≤ mostOrder
@@ -27,7 +26,7 @@ pub memory-known : (base frames order : ℕ) → memoryRight base frames order �
 unfolding memoryRight
 memory-known base frames order e =
     let a : Bool = leb leastBase base in
-    let b : Bool = leb 1 frames in
+    let b : Bool = leb leastFrames frames in
     let c : Bool = leb frames mostFrames in
     let d : Bool = leb (base + frames) mostEnd in
     let f : Bool = leb order mostOrder in
@@ -36,7 +35,7 @@ memory-known base frames order e =
     let ab = and-left (a && b) c abc in
     record {
       base-low = leb-true leastBase base (and-left a b ab);
-      frames-low = leb-true 1 frames (and-right a b ab);
+      frames-low = leb-true leastFrames frames (and-right a b ab);
       frames-high = leb-true frames mostFrames (and-right (a && b) c abc);
       end-high = leb-true (base + frames) mostEnd (and-right (a && b && c) d abcd);
       order-high = leb-true order mostOrder (and-right (a && b && c && d) f e);

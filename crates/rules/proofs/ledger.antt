@@ -12,6 +12,7 @@ pub mod GrantedRun
 pub mod Grants
 pub mod Histories
 pub mod Instance
+pub mod Items
 pub mod Kept
 pub mod Marks
 pub mod MoveOut

@@ -8,7 +8,6 @@ use Rattle.search.specs.Choice.{if_then_else_}
 use Rattle.search.specs.Search.{every, highestFrom}
 use Rattle.answer.specs.Answers.{done}
 use Rattle.frames.specs.declared.Area.{Area}
-use Rattle.frames.specs.declared.Frame.{Frame}
 use Rattle.frames.specs.Units.{frame, place}
 use Rattle.frames.specs.Areas.{ceiling, wordCount}
 use Rattle.frames.specs.Tables.{Tables, fill, withBitmap}

@@ -1,6 +1,9 @@
 -- Document 01, "The machine and its neighbours", the first table: what is allowed. Byte amounts are `mostBytes` of the regions text.
 use Prim.Native.Nat.{ℕ, _^_}
 
+abbrev pub leastFrames : ℕ
+leastFrames = 1
+
 abbrev pub mostFrames : ℕ
 mostFrames = 65536
 
@@ -17,7 +20,9 @@ mostOrder = 10
 abbrev pub mostAreas : ℕ
 mostAreas = 8
 
--- page names are 1 to this
+abbrev pub leastName : ℕ
+leastName = 1
+
 abbrev pub mostName : ℕ
 mostName = 536870911
 

@@ -5,7 +5,7 @@ use mathlib.Core.Bool.{Bool, true, false}
 use mathlib.Core.List.{List, [], _∷_}
 use Rattle.search.specs.Choice.{if_then_else_}
 use Rattle.answer.specs.declared.Answer.{Answer}
-use Rattle.answer.specs.Answers.{done, refused}
+use Rattle.answer.specs.Answers.{refused}
 use Rattle.frames.specs.Tables.{Tables}
 use Rattle.rules.specs.Record.{Machine}
 

@@ -11,7 +11,7 @@ use Rattle.frames.specs.Units.{place}
 use Rattle.frames.specs.Marks.{markOf, hasKind, isPageOf, free, movable, pinned, fixed}
 use Rattle.frames.specs.Tables.{Tables, markAt, wordAt, setPage}
 use Rattle.rules.specs.Record.{Machine, frameAt, isOrdinary}
-use Rattle.rules.specs.Limits.{mostName}
+use Rattle.rules.specs.Limits.{leastName, mostName}
 use Rattle.rules.specs.Shape.{shapeWrong}
 use Rattle.rules.specs.Outcomes.{Outcome, outcome, Check, _⇒_, checked}
 
@@ -23,7 +23,7 @@ abbrev pub lowestPlace : Machine → (Place → Bool) → Place
 lowestPlace m test = place (lowest (λ i. test (place i)) (m .frames))
 
 abbrev pub badName : ℕ → Bool
-badName name = eqb name 0 || ltb mostName name
+badName name = ltb name leastName || ltb mostName name
 
 -- where a page stands: when its name stands twice, the lowest frame is meant
 unfoldable pub pageAt : Machine → Tables → ℕ → Place

@@ -8,12 +8,12 @@ use Rattle.frames.specs.declared.Area.{Area}
 use Rattle.frames.specs.Areas.{isMultiple, endOf, areDisjoint, firstWord}
 use Rattle.frames.specs.Tables.{Tables}
 use Rattle.rules.specs.Record.{Machine, areaAt, endFrame}
-use Rattle.rules.specs.Limits.{mostFrames, leastBase, mostEnd, mostOrder, mostAreas}
+use Rattle.rules.specs.Limits.{leastFrames, mostFrames, leastBase, mostEnd, mostOrder, mostAreas}
 
 -- the first frame, the number of frames and the block order keep to the first table
 unfoldable pub memoryRight : ℕ → ℕ → ℕ → Bool
 memoryRight base frames order =
-    leb leastBase base && leb 1 frames && leb frames mostFrames && leb (base + frames) mostEnd && leb order mostOrder
+    leb leastBase base && leb leastFrames frames && leb frames mostFrames && leb (base + frames) mostEnd && leb order mostOrder
 
 -- marks and words have an entry for each frame
 unfoldable pub lengthsRight : ℕ → Tables → Bool

@@ -1,5 +1,14 @@
+pub mod All
+pub mod Bitmaps
+pub mod Boots
+pub mod Changes
 pub mod Declares
+pub mod Devices
 pub mod Grants
 pub mod Moves
+pub mod Numbers
 pub mod Pages
+pub mod Releases
+pub mod Rounded
+pub mod Shapes
 pub mod Unchanged

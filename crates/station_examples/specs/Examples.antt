@@ -55,5 +55,5 @@ examples =
     -- E8
     example (E1 ++ (release 0 (frame 8) 2 answers refused 9 ∷ release 0 (frame 9) 1 answers refused 3 ∷ [])) [] ∷
     -- E9
-    example (machineWith 2 ++ (grant 0 5 0 answers done 8 0 ∷ grant 0 1 0 answers done 16 0 ∷ [])) (8 holds 44 ∷ 9 holds 5 ∷ 12 holds 5 ∷ 13 holds 0 ∷ 16 holds 12 ∷ []) ∷
+    example (machineWith 2 ++ (grant 0 5 0 answers done 8 0 ∷ grant 0 1 0 answers done 16 0 ∷ [])) (8 holds 44 ∷ 9 holds 5 ∷ 10 holds 5 ∷ 11 holds 5 ∷ 12 holds 5 ∷ 13 holds 0 ∷ 16 holds 12 ∷ []) ∷
     []

@@ -18,10 +18,10 @@ use Rattle.machine.specs.Given.{machineOf, outcomeOf}
 use Rattle.rules.specs.Outcomes.{Outcome}
 use Rattle.rules.specs.Calls.{Call, perform}
 use Rattle.szk.specs.Layout.{recordLength, answerLength, recordOf, numbersOf, answerNumbers, over}
-use Rattle.szk.specs.Exported.{lent, isShort, givenBack, exported, Judged}
+use Rattle.szk.specs.Exported.{lent, isShort, toldShort, givenBack, exported, Judged}
 
 module _ (numbers answer : List ℕ) where
-  pub no-room : length answer < answerLength → Judged numbers answer true answer
+  pub no-room : length answer < answerLength → Judged numbers answer true (toldShort answer)
   no-room h = let e = lt-ltb (length answer) answerLength h in record { verdict = rw e refl; left = rw e refl }
 
   pub short-record : answerLength ≤ length answer → length numbers < recordLength → Judged numbers answer true (over (answerNumbers (refused 1)) answer)

@@ -4,7 +4,7 @@ use mathlib.Core.Path.{_≡_}
 use mathlib.Core.Bool.{Bool, not, _||_}
 use mathlib.Core.List.{List}
 use lib.Dec.{ltb, eqb}
-use lib.ListN.{length}
+use lib.ListN.{length, set}
 use Rattle.search.specs.Choice.{if_then_else_}
 use Rattle.answer.specs.declared.Answer.{Answer}
 use Rattle.answer.specs.Answers.{refused}
@@ -36,11 +36,14 @@ abbrev pub givenBack : Outcome → Lent → Lent
 givenBack o l =
     record { numbers = over (numbersOf (o .machine)) (l .numbers); tables = o .left; answer = over (answerNumbers (o .answer)) (l .answer) }
 
--- with no room for the answer nothing is done; a record that is too short is the wrong shape; else the call is made on the record that the
--- numbers hold
+-- an answer too short for three numbers becomes the refusal of a wrong shape, in its first number; one of no numbers can take nothing
+abbrev pub toldShort : List ℕ → List ℕ
+toldShort answer = set answer 0 1
+
+-- an answer or a record that is too short is the wrong shape; else the call is made on the record that the numbers hold
 unfoldable pub exported : Call → Lent → Lent
 exported call l =
-    if isShort (l .answer) answerLength then l
+    if isShort (l .answer) answerLength then record { numbers = l .numbers; tables = l .tables; answer = toldShort (l .answer) }
     else if isShort (l .numbers) recordLength then answered l (refused 1)
     else givenBack (perform call (recordOf (l .numbers)) (l .tables)) l
 
@@ -63,6 +66,6 @@ declareOf base size limit alignment order fixed =
 pub record Judged (numbers answer : List ℕ) (short : Bool) (after : List ℕ) : Type 0 where
   pub verdict : short ≡ (isShort answer answerLength || isShort numbers recordLength)
   pub left : after ≡
-      (if isShort answer answerLength then answer
+      (if isShort answer answerLength then toldShort answer
       else if isShort numbers recordLength then over (answerNumbers (refused 1)) answer
       else answer)

@@ -1,6 +1,7 @@
--- What a caller can rely on besides the contracts: the layout loses nothing, a refusal changes nothing, and each call is given the record that
--- the last one returned. Proved in `proofs/ReadBack.antt`, `proofs/Refusals.antt` and `proofs/NextRecord.antt`.
-use Prim.Native.Nat.{ℕ, _≤_}
+-- What a caller can rely on besides the contracts: the layout loses nothing, a refusal changes nothing, a 0 says that the call was made, and
+-- each call is given the record that the last one returned. Proved in `proofs/ReadBack.antt`, `proofs/Refusals.antt` and
+-- `proofs/NextRecord.antt`.
+use Prim.Native.Nat.{ℕ, _≤_, _<_}
 use mathlib.Core.Logic.{_≢_}
 use mathlib.Core.Path.{_≡_}
 use mathlib.Core.List.{List, _++_}
@@ -24,6 +25,13 @@ abbrev pub RefusalKeeps : Type 0
 RefusalKeeps =
     (call : Call) (l : Lent) →
     getD (exported call l .answer) 0 0 ≢ 0 → (exported call l .numbers ≡ l .numbers) × (exported call l .tables ≡ l .tables)
+
+-- where an answer has a number at all, a 0 in its first says that the call was made: both lists are long enough for it
+abbrev pub DoneIsMade : Type 0
+DoneIsMade =
+    (call : Call) (l : Lent) →
+    0 < length (l .answer) →
+    getD (exported call l .answer) 0 0 ≡ 0 → (answerLength ≤ length (l .answer)) × (recordLength ≤ length (l .numbers))
 
 -- after a call the numbers hold the record that the call returned, which is the record that the next call is made on
 abbrev pub NextRecord : Type 0

@@ -10,11 +10,13 @@ use answer::Answer;
 use answer::refusal;
 use machine::Returned;
 
-// Whether the record or the answer is too short for a call. A record that is too short is answered as the wrong shape.
+// Whether the record or the answer is too short for a call. Either is refused as the wrong shape; an answer that is too short gets the
+// refusal's number alone.
 pub fn refuse_short(numbers: &[u64], answer: &mut [u64]) -> bool
     ensures { λ r. ⌜ Judged (now (numbers .entry)) (now (answer .entry)) r (now (answer .exit)) ⌝ }
 {
     if answer.len() < layout::ANSWER {
+        layout::store_refusal(answer, refusal::WRONG_SHAPE);
         return true;
     }
     if numbers.len() < layout::RECORD {

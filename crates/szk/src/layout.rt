@@ -1,7 +1,7 @@
 // The machine record as the 28 numbers that a caller lends, and the answer as three: read from there, and written back.
 ghost use mathlib.Core.Path.{_≡_};
 ghost use Prim.Native.Nat.{_+_, _≤_};
-ghost use lib.ListN.{length};
+ghost use lib.ListN.{length, set};
 ghost use lib.Seq.{sets};
 ghost use Rattle.szk.specs.Layout.{areasStart, recordLength, answerLength, areaFrom, areasFrom, recordOf, areaNumbers, numbersOf, answerNumbers, over};
 ghost use Rattle.rules.specs.Limits.{mostAreas};
@@ -114,4 +114,14 @@ pub fn store_answer(numbers: &mut [u64], a: Answer)
     numbers[0] = a.refusal;
     numbers[1] = a.first;
     numbers[2] = a.second;
+}
+
+// A refusal's number alone is written, for an answer that has no room for three. A list of no numbers can take nothing.
+pub fn store_refusal(numbers: &mut [u64], number: u64)
+    ensures { λ r. ⌜ now (numbers .exit) ≡ set (now (numbers .entry)) 0 number ⌝ }
+{
+    if numbers.len() == 0 {
+        return;
+    }
+    numbers[0] = number;
 }

@@ -4,14 +4,25 @@ use Prim.Native.Nat.{_-_, _≤_}
 use native.Mathlib.Omega.{arith}
 use mathlib.Core.Path.{_≡_}
 use lib.ListN.{length}
+use Rattle.playback.specs.Replay.{heldFrames, heldBitmapWords}
 use Rattle.cases.proofs.play_from.Statement.{statement}
 use Rattle.cases.proofs.play_from.Tie as tie
 
 abbrev Inv-loop : tie.InvT-loop
-Inv-loop bytes out₀ from marks₀ words₀ bitmap₀ text₀ n₀ out marks words bitmap text n = (text ≤ length out) × (length out ≡ length out₀) × (length marks ≡ 2048) × (length words ≡ 2048) × (length bitmap ≡ 40)
+Inv-loop bytes out₀ from marks₀ words₀ bitmap₀ text₀ n₀ out marks words bitmap text n =
+    (text ≤ length out) × (length out ≡ length out₀) × (length marks ≡ heldFrames) × (length words ≡ heldFrames) × (length bitmap ≡ heldBitmapWords)
 
 abbrev μ-loop : tie.MeasureT-loop
 μ-loop bytes out₀ from marks₀ words₀ bitmap₀ text₀ n₀ out marks words bitmap text n = length bytes - n
+
+marks-requires : tie.Need-marks-requires Inv-loop μ-loop
+marks-requires c κs = search needs
+
+words-requires : tie.Need-words-requires Inv-loop μ-loop
+words-requires c κs = search needs
+
+bitmap-requires : tie.Need-bitmap-requires Inv-loop μ-loop
+bitmap-requires c κs = search needs
 
 loop-holds : tie.Need-loop-holds Inv-loop μ-loop
 loop-holds c = search needs
@@ -74,6 +85,9 @@ play-from-spec =
     (tie.spec
     Inv-loop
     μ-loop
+    marks-requires
+    words-requires
+    bitmap-requires
     loop-holds
     sub-play
     part-play-start

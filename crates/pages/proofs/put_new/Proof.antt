@@ -42,11 +42,8 @@ mul-marks-2 c = search needs
 slice-write-marks : tie.Need-slice-write-marks
 slice-write-marks c = search needs
 
-mul-words : tie.Need-mul-words
-mul-words c = search needs
-
-slice-write-words : tie.Need-slice-write-words
-slice-write-words c = let k = looked-missing _ _ _ (c .before .before .before .before .before .before .before .pre .0) in omega (arith, k .shape .marks-length, k .shape .words-length)
+fill-words-requires : tie.Need-fill-words-requires
+fill-words-requires c κs = search needs
 
 frame-at-requires : tie.Need-frame-at-requires
 frame-at-requires c κs = search needs
@@ -61,7 +58,7 @@ same-length-4 : tie.Need-same-length-4
 same-length-4 c = search needs
 
 returns-2 : tie.Need-returns-2
-returns-2 c = returns-it (c .done .ensures) (put-done _ _ _ _ (c .before .before .before .before .before .before .before .before .before .before .pre .0) _ (c .before .before .before .before .put-at .ensures) (c .before .before .before .if1 .left) _ (omega arith) (c .before .frame-at .result) (c .before .frame-at .ensures))
+returns-2 c = returns-it (c .done .ensures) (put-done _ _ _ _ (c .before .before .before .before .before .before .before .before .before .before .before .before .before .before .pre .0) _ (c .before .before .before .before .before .before .before .before .put-at .ensures) (c .before .before .before .before .before .before .before .if1 .left) _ (omega arith) _ (c .before .before .before .before .before .fill-words .ensures) (c .before .frame-at .result) (c .before .frame-at .ensures))
 
 pub put-new-spec : {M : Type 1} → statement M
 put-new-spec =
@@ -77,8 +74,7 @@ put-new-spec =
     add-marks
     mul-marks-2
     slice-write-marks
-    mul-words
-    slice-write-words
+    fill-words-requires
     frame-at-requires
     done-requires
     same-length-3

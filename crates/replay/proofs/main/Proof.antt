@@ -4,16 +4,26 @@ use borrow.Author.Needs.{needs}
 use native.Mathlib.Omega.{arith}
 use mathlib.Core.Path.{_≡_}
 use lib.ListN.{length}
+use Rattle.playback.specs.Replay.{heldFrames, heldBitmapWords}
 use Rattle.replay.specs.Bounds.{Bounds}
 use Rattle.replay.proofs.main.Statement.{statement}
 use Rattle.replay.proofs.main.Tie as tie
 
 abbrev Inv-loop : tie.InvT-loop
 Inv-loop input₀ out₀ marks₀ words₀ bitmap₀ s₀ input out marks words bitmap s =
-    Bounds s × (length input ≡ 65536) × (length out ≡ 65536) × (length marks ≡ 2048) × (length words ≡ 2048) × (length bitmap ≡ 40)
+    Bounds s × (length input ≡ 65536) × (length out ≡ 65536) × (length marks ≡ heldFrames) × (length words ≡ heldFrames) × (length bitmap ≡ heldBitmapWords)
 
 abbrev μ-loop : tie.MeasureT-loop
 μ-loop input₀ out₀ marks₀ words₀ bitmap₀ s₀ input out marks words bitmap s = s .left
+
+marks-requires : tie.Need-marks-requires Inv-loop μ-loop
+marks-requires c κs = search needs
+
+words-requires : tie.Need-words-requires Inv-loop μ-loop
+words-requires c κs = search needs
+
+bitmap-requires : tie.Need-bitmap-requires Inv-loop μ-loop
+bitmap-requires c κs = search needs
 
 write-heading-requires : tie.Need-write-heading-requires Inv-loop μ-loop
 write-heading-requires c κs = search needs
@@ -60,6 +70,9 @@ main-spec =
     (tie.spec
     Inv-loop
     μ-loop
+    marks-requires
+    words-requires
+    bitmap-requires
     write-heading-requires
     start-requires
     loop-holds

@@ -1,4 +1,4 @@
--- Boot: an accepted one leaves what the invariant says of an empty ledger; a refused one changes nothing. Assumes nothing.
+-- Boot: an accepted one leaves what the invariant says of an empty ledger. Assumes nothing.
 use Prim.Native.Nat.{ℕ, suc, _+_, _/_, _≤_, _<_}
 use native.Mathlib.Omega.{arith}
 use mathlib.Core.Bool.{Bool, true, false, not, _&&_}
@@ -24,16 +24,14 @@ use Rattle.rules.specs.Shape.{memoryRight, lengthsRight, shapeRight}
 use Rattle.rules.specs.DeviceCalls.{bitmapOf, placeOfBit}
 use Rattle.rules.specs.Declare.{withArea}
 use Rattle.rules.specs.Boot.{bareMachine, zeroTables, requestOf, declareAll, bootRecord, booted, boot}
-use Rattle.rules.specs.Calls as Calls
 use Rattle.rules.proofs.Shapes.{shape-known}
-use Rattle.rules.specs.ledger.Ledger.{Ledger, emptyLedger, isAmong, fed}
+use Rattle.rules.specs.ledger.Ledger.{emptyLedger, isAmong}
 use Rattle.rules.specs.ledger.Runs.{isRefused}
 use Rattle.rules.specs.ledger.Invariant.{BitsSound, Sound}
 use Rattle.frames.proofs.FillFacts.{length-fill}
 use Rattle.rules.proofs.ShapeFacts.{shape-lengths}
 use Rattle.rules.proofs.ledger.BitRuns.{zero-clear, place-inside, word-inside}
 use Rattle.rules.proofs.ledger.Grants.{at-none, among-none}
-use Rattle.rules.proofs.ledger.Kept.{Kept, ledgerAfter}
 use Rattle.rules.proofs.Placement.{newArea, newTables, declare-cases, declared-shape, declared-records}
 use Rattle.rules.proofs.BareShape.{bare-shape}
 use Rattle.regions.proofs.Refusals.{Sound as ReadSound, sound-regions}
@@ -148,24 +146,3 @@ pub boot-sound :
 unfolding boot
 boot-sound given base frames order text t e =
     outcome-sound given t (bootRecord base frames order text t) (boot-fine base frames order text t) e
-
--- ---- a refused boot
-
-outcome-kept :
-    (c : Calls.Call) (m : Machine) (t : Tables) (l : Ledger) →
-    Sound m t l → (r : Read Machine) → isRefused (booted m t r) ≡ true → Kept c m t l (booted m t r)
-outcome-kept c m t l s (gives new at) e = clash false e refl
-outcome-kept c m t l s (refuses number at) e =
-    let same : ledgerAfter c (booted m t (refuses number at)) l ≡ l = ap (λ (b : Bool). fed c b at l) e in
-    record {
-      sound = rw same s;
-      pins = λ x a p. record { wasPinned = sym (ap (λ (k : Ledger). k .pinned x) same) ∙ p; frames = refl; base = refl; place = refl };
-    }
-
-pub boot-kept :
-    (m : Machine) (base frames order : ℕ) (text : List ℕ) (t : Tables) (l : Ledger) →
-    Sound m t l →
-    isRefused (boot m base frames order text t) ≡ true → Kept (Calls.boot base frames order text) m t l (boot m base frames order text t)
-unfolding boot
-boot-kept m base frames order text t l s e =
-    outcome-kept (Calls.boot base frames order text) m t l s (bootRecord base frames order text t) e

@@ -1,7 +1,8 @@
 -- One call in two runs, on tables that differ only in the words of chosen pages. Every check and every choice reads marks, bits and lengths
 -- alone, so it is the same in both. Assumes nothing.
+--     refused-alike   a call that is refused has the same answer on the same tables with other words, of the same number
 --     SeenAlike       the same record, the same answer but for hidden words, and tables that still differ in no more
---     own-alike       each call leaves this so
+--     own-alike       each call but boot leaves this so
 use Prim.Native.Nat.{ℕ, zero, suc, _-_}
 use native.Mathlib.Omega.{arith}
 use mathlib.Core.Bool.{Bool, true, false, not, _&&_}
@@ -20,7 +21,7 @@ use Rattle.frames.specs.Tables.{Tables, markAt, wordAt, setPage, fill, fillPage
 use Rattle.regions.specs.Reading.{Read, gives, refuses}
 use Rattle.rules.specs.Record.{Machine, placeOf, frameAt}
 use Rattle.rules.specs.Declare.{Request, isVacant, fitsAt, highestFit}
-use Rattle.rules.specs.Shape.{shapeWrong, lengthsRight}
+use Rattle.rules.specs.Shape.{shapeWrong}
 use Rattle.rules.specs.Outcomes.{Outcome, outcome, Check, _⇒_, refuse, checked, Passed}
 use Rattle.rules.specs.PageCalls.{pageAt, isLive, freeOrdinary, freeInArea, putAt}
 use Rattle.rules.specs.PageCalls as Page
@@ -30,9 +31,10 @@ use Rattle.rules.specs.Declare as Declare
 use Rattle.rules.specs.Boot.{zeroTables, bootRecord, booted}
 use Rattle.rules.specs.Boot as Boot
 use Rattle.rules.specs.Calls.{Call, putMovable, putFixed, dropPage, pinPage, unpinPage, storePage, readPage, grant, release, deviceStore, deviceRead, declare, boot, perform}
-use Rattle.rules.specs.ledger.Runs.{SameCall, same, otherWord, withoutWord, seen}
+use Rattle.rules.specs.ledger.Runs.{isRefused, isBoot, SameCall, same, otherWord, withoutWord, seen}
 use Rattle.rules.proofs.ledger.Marks.{page-of, page-field, page-named, mark-kind, mark-field, granted-page}
 use Rattle.rules.proofs.ShapeFacts.{shape-lengths}
+use Rattle.rules.proofs.promises.Boots.{record-lengths}
 use Rattle.rules.proofs.ledger.Names.{live-here}
 use Rattle.rules.proofs.ledger.OtherWords.{isHidden, otherWords, SameWords, Alike, alike-words, to-alike, set-alike, fill-alike, bitmap-alike}
 
@@ -48,25 +50,69 @@ pub record SeenAlike (hides : ℕ → Bool) (c c′ : Call) (o o′ : Outcome) :
 
 -- the shape is the same in both, and all other checks are
 checked-alike :
-    (hides : ℕ → Bool) (c c′ : Call) (m : Machine) (t t′ : Tables) (wrong wrong′ : Bool) (rest : List Check) (o o′ : Outcome) →
-    ((number : ℕ) → SeenAlike hides c c′ (refuse m t number) (refuse m t′ number)) →
+    (P : Outcome → Outcome → Type 0) (m : Machine) (t t′ : Tables) (wrong wrong′ : Bool) (rest : List Check) (o o′ : Outcome) →
+    ((number : ℕ) → P (refuse m t number) (refuse m t′ number)) →
     wrong ≡ wrong′ →
-    (Passed rest → SeenAlike hides c c′ o o′) →
-    SeenAlike hides c c′ (checked m t (wrong ⇒ 1 ∷ rest) o) (checked m t′ (wrong′ ⇒ 1 ∷ rest) o′)
+    (Passed rest → P o o′) → P (checked m t (wrong ⇒ 1 ∷ rest) o) (checked m t′ (wrong′ ⇒ 1 ∷ rest) o′)
 unfolding checked
-checked-alike hides c c′ m t t′ wrong wrong′ rest o o′ refusal e passed =
+checked-alike P m t t′ wrong wrong′ rest o o′ refusal e passed =
     by-cases wrong (λ y. rw (sym e ∙ y, y) (refusal 1)) (λ n. rw (sym e ∙ n, n) (go rest passed))
   where
-    go : (cs : List Check) → (Passed cs → SeenAlike hides c c′ o o′) → SeenAlike hides c c′ (checked m t cs o) (checked m t′ cs o′)
+    go : (cs : List Check) → (Passed cs → P o o′) → P (checked m t cs o) (checked m t′ cs o′)
     go [] p = p tt
     go (k ∷ ks) p = by-cases (k .holds) (λ y. rw y (refusal (k .number))) (λ n. rw n (go ks (λ q. p (n, q))))
+
+-- ---- a call that is refused
+
+same-shape : (m : Machine) (t : Tables) (words : List ℕ) → length words ≡ length (t .words) → shapeWrong m t ≡ shapeWrong m (otherWords t words)
+same-shape m t words e = ap not (sym (shape-lengths m t (otherWords t words) refl e refl))
+
+-- what is refused in one run has the same answer in the other
+abbrev pub RefusedAlike : Outcome → Outcome → Type 0
+RefusedAlike o o′ = isRefused o ≡ true → o′ .answer ≡ o .answer
+
+module _ (m : Machine) (t : Tables) (words : List ℕ) (same-length : length words ≡ length (t .words)) where
+  checks-refused :
+      (rest : List Check) (o o′ : Outcome) →
+      isRefused o ≡ false →
+      RefusedAlike (checked m t (shapeWrong m t ⇒ 1 ∷ rest) o) (checked m (otherWords t words) (shapeWrong m (otherWords t words) ⇒ 1 ∷ rest) o′)
+  checks-refused rest o o′ accepted =
+      checked-alike RefusedAlike m t (otherWords t words) _ _ rest o o′ (λ n e. refl) (same-shape m t words same-length)
+      (λ _ e. clash (isRefused o) e accepted)
+
+  boot-refused : (r : Read Machine) → RefusedAlike (booted m t r) (booted m (otherWords t words) r)
+  boot-refused (gives new at) e = refl
+  boot-refused (refuses number at) e = refl
+
+  call-refused : (c : Call) → RefusedAlike (perform c m t) (perform c m (otherWords t words))
+  unfolding Page.putPage Page.dropPage Page.changeKind Page.storePage Page.readPage pageAt putAt freeOrdinary freeInArea Device.grant Device.release Device.deviceStore Device.deviceRead chosen isGrantable isCandidate movers targets laterFrames Declare.declare isVacant fitsAt highestFit Boot.boot
+  call-refused (putMovable name) = checks-refused _ _ _ refl
+  call-refused (putFixed name) = checks-refused _ _ _ refl
+  call-refused (dropPage name) = checks-refused _ _ _ refl
+  call-refused (pinPage name) = checks-refused _ _ _ refl
+  call-refused (unpinPage name) = checks-refused _ _ _ refl
+  call-refused (storePage name word) = checks-refused _ _ _ refl
+  call-refused (readPage name) = checks-refused _ _ _ refl
+  call-refused (grant area count order) = checks-refused _ _ _ refl
+  call-refused (release area f count) = checks-refused _ _ _ refl
+  call-refused (deviceStore f word) = checks-refused _ _ _ refl
+  call-refused (deviceRead f) = checks-refused _ _ _ refl
+  call-refused (declare request) = checks-refused _ _ _ refl
+  call-refused (boot base frames order text) =
+      rw (record-lengths t (otherWords t words) (record { marks = refl; words = same-length; bitmap = refl }) base frames order text)
+      (boot-refused (bootRecord base frames order text t))
+
+  -- the words that would have been stored may differ
+  pub refused-alike : {hides : ℕ → Bool} {c d : Call} → SameCall hides c d → RefusedAlike (perform c m t) (perform d m (otherWords t words))
+  unfolding Page.storePage pageAt
+  refused-alike (same c) = call-refused c
+  refused-alike (otherWord name word word′ e) = checks-refused _ _ _ refl
+
+-- ---- a call on the runs' own tables
 
 module _ (hides : ℕ → Bool) (m : Machine) (t : Tables) (words : List ℕ) (s : SameWords hides t words) where
   abbrev t′ : Tables
   t′ = otherWords t words
-
-  same-shape : shapeWrong m t ≡ shapeWrong m t′
-  same-shape = ap not (sym (shape-lengths m t t′ refl (s .lengths) refl))
 
   -- a refusal, and any other answer that gives the tables back
   unchanged : (c c′ : Call) (a a′ : Answer) → seen hides c a ≡ seen hides c′ a′ → SeenAlike hides c c′ (outcome m a t) (outcome m a′ t′)
@@ -92,19 +138,27 @@ module _ (hides : ℕ → Bool) (m : Machine) (t : Tables) (words : List ℕ) (s
   hidden-is : (name : ℕ) → isLive m t name ≡ true → isHidden hides (markAt t (pageAt m t name)) ≡ hides name
   hidden-is name live = page-hidden name (markAt t (pageAt m t name)) (live-here m t name live)
 
-  same-refusal : (c c′ : Call) → ((number : ℕ) → seen hides c (refused number) ≡ seen hides c′ (refused number)) → (number : ℕ) → SeenAlike hides c c′ (refuse m t number) (refuse m t′ number)
-  same-refusal c c′ e number = unchanged c c′ (refused number) (refused number) (e number)
+  -- where the refusals are seen the same, it is left to look at the call that passes its checks
+  checks-alike :
+      (c c′ : Call) →
+      ((number : ℕ) → seen hides c (refused number) ≡ seen hides c′ (refused number)) →
+      (rest : List Check) (o o′ : Outcome) →
+      (Passed rest → SeenAlike hides c c′ o o′) →
+      SeenAlike hides c c′ (checked m t (shapeWrong m t ⇒ 1 ∷ rest) o) (checked m t′ (shapeWrong m t′ ⇒ 1 ∷ rest) o′)
+  checks-alike c c′ e rest o o′ passed =
+      checked-alike (SeenAlike hides c c′) m t t′ _ _ rest o o′ (λ number. unchanged c c′ (refused number) (refused number) (e number))
+      (same-shape m t words (s .lengths)) passed
 
   put-alike : (c : Call) (kind name : ℕ) → SeenAlike hides c c (Page.putPage kind m name t) (Page.putPage kind m name t′)
   unfolding Page.putPage pageAt putAt freeOrdinary freeInArea
   put-alike c kind name =
-      checked-alike hides c c m t t′ _ _ _ _ _ (same-refusal c c (λ _. refl)) same-shape
+      checks-alike c c (λ _. refl) _ _ _
       (λ passed. one-frame c c _ (putAt kind m t .0) (markOf name kind) 0 0 refl (λ _. refl))
 
   drop-alike : (name : ℕ) → SeenAlike hides (dropPage name) (dropPage name) (Page.dropPage m name t) (Page.dropPage m name t′)
   unfolding Page.dropPage pageAt
   drop-alike name =
-      checked-alike hides (dropPage name) (dropPage name) m t t′ _ _ _ _ _ (same-refusal (dropPage name) (dropPage name) (λ _. refl)) same-shape
+      checks-alike (dropPage name) (dropPage name) (λ _. refl) _ _ _
       (λ passed. one-frame (dropPage name) (dropPage name) (done 0 0) (pageAt m t name .0) 0 0 0 refl (λ _. refl))
 
   kind-alike :
@@ -112,7 +166,7 @@ module _ (hides : ℕ → Bool) (m : Machine) (t : Tables) (words : List ℕ) (s
       isPageOf name (markOf name to) ≡ true → SeenAlike hides c c (Page.changeKind from to m name t) (Page.changeKind from to m name t′)
   unfolding Page.changeKind pageAt
   kind-alike c from to name page =
-      checked-alike hides c c m t t′ _ _ _ _ _ (same-refusal c c (λ _. refl)) same-shape
+      checks-alike c c (λ _. refl) _ _ _
       (λ passed.
       let live : isLive m t name ≡ true = not-false (isLive m t name) (passed .1 .0) in
       one-frame c c (done 0 0) (pageAt m t name .0) (markOf name to) (wordAt t (pageAt m t name)) (wordAt t′ (pageAt m t name)) refl
@@ -125,8 +179,7 @@ module _ (hides : ℕ → Bool) (m : Machine) (t : Tables) (words : List ℕ) (s
       SeenAlike hides (storePage name word) (storePage name word′) (Page.storePage m name word t) (Page.storePage m name word′ t′)
   unfolding Page.storePage pageAt
   store-alike name word word′ e =
-      checked-alike hides (storePage name word) (storePage name word′) m t t′ _ _ _ _ _
-      (same-refusal (storePage name word) (storePage name word′) (λ _. refl)) same-shape
+      checks-alike (storePage name word) (storePage name word′) (λ _. refl) _ _ _
       (λ passed.
       let live : isLive m t name ≡ true = not-false (isLive m t name) (passed .1 .0) in
       one-frame (storePage name word) (storePage name word′) (done 0 0) (pageAt m t name .0) (markAt t (pageAt m t name)) word word′ refl
@@ -135,7 +188,7 @@ module _ (hides : ℕ → Bool) (m : Machine) (t : Tables) (words : List ℕ) (s
   read-alike : (name : ℕ) → SeenAlike hides (readPage name) (readPage name) (Page.readPage m name t) (Page.readPage m name t′)
   unfolding Page.readPage pageAt
   read-alike name =
-      checked-alike hides (readPage name) (readPage name) m t t′ _ _ _ _ _ (same-refusal (readPage name) (readPage name) (λ _. refl)) same-shape
+      checks-alike (readPage name) (readPage name) (λ _. refl) _ _ _
       (λ passed.
       let live : isLive m t name ≡ true = not-false (isLive m t name) (passed .1 .0) in
       let p = pageAt m t name in
@@ -144,39 +197,45 @@ module _ (hides : ℕ → Bool) (m : Machine) (t : Tables) (words : List ℕ) (s
       (by-cases (hides name) (λ y. seen-word (hides name) y (done first (wordAt t p)) ∙ sym (seen-word (hides name) y (done first (wordAt t′ p))))
       (λ n. ap (λ (x : ℕ). seen hides (readPage name) (done first x)) (sym (s .same (p .0) (hidden-is name live ∙ n))))))
 
-  device-store-alike : (f : Frame) (word : ℕ) → SeenAlike hides (deviceStore f word) (deviceStore f word) (Device.deviceStore m f word t) (Device.deviceStore m f word t′)
+  device-store-alike :
+      (f : Frame) (word : ℕ) →
+      SeenAlike hides (deviceStore f word) (deviceStore f word) (Device.deviceStore m f word t) (Device.deviceStore m f word t′)
   unfolding Device.deviceStore
   device-store-alike f word =
-      checked-alike hides (deviceStore f word) (deviceStore f word) m t t′ _ _ _ _ _ (same-refusal (deviceStore f word) (deviceStore f word) (λ _. refl))
-      same-shape (λ passed. one-frame (deviceStore f word) (deviceStore f word) (done 0 0) (placeOf m f .0) (markAt t (placeOf m f)) word word refl (λ _. refl))
+      checks-alike (deviceStore f word) (deviceStore f word) (λ _. refl) _ _ _
+      (λ passed.
+      one-frame (deviceStore f word) (deviceStore f word) (done 0 0) (placeOf m f .0) (markAt t (placeOf m f)) word word refl (λ _. refl))
 
   device-read-alike : (f : Frame) → SeenAlike hides (deviceRead f) (deviceRead f) (Device.deviceRead m f t) (Device.deviceRead m f t′)
   unfolding Device.deviceRead
   device-read-alike f =
-      checked-alike hides (deviceRead f) (deviceRead f) m t t′ _ _ _ _ _ (same-refusal (deviceRead f) (deviceRead f) (λ _. refl)) same-shape
+      checks-alike (deviceRead f) (deviceRead f) (λ _. refl) _ _ _
       (λ passed.
       let mark = markAt t (placeOf m f) in
       let granted : isGranted mark ≡ true = not-false (isGranted mark) (passed .1 .0) in
       unchanged (deviceRead f) (deviceRead f) (done (wordAt t (placeOf m f)) 0) (done (wordAt t′ (placeOf m f)) 0)
       (ap (λ (x : ℕ). done x 0) (sym (s .same (placeOf m f .0) (ap (λ (b : Bool). b && hides (fieldOf mark)) (granted-page mark granted))))))
 
-  release-alike : (i : ℕ) (f : Frame) (count : ℕ) → SeenAlike hides (release i f count) (release i f count) (Device.release m i f count t) (Device.release m i f count t′)
+  release-alike :
+      (i : ℕ) (f : Frame) (count : ℕ) →
+      SeenAlike hides (release i f count) (release i f count) (Device.release m i f count t) (Device.release m i f count t′)
   unfolding Device.release laterFrames freeRun
   release-alike i f count =
-      checked-alike hides (release i f count) (release i f count) m t t′ _ _ _ _ _ (same-refusal (release i f count) (release i f count) (λ _. refl)) same-shape
+      checks-alike (release i f count) (release i f count) (λ _. refl) _ _ _
       (λ passed.
       record {
         machine = refl;
         answer = refl;
         left =
             to-alike hides (freeRun m t i f count) (fill words (placeOf m f .0) count 0)
-            (bitmap-alike hides (fillPages t (placeOf m f) count 0 0) (fill words (placeOf m f .0) count 0) (freeRun m t i f count .bitmap) (fill-alike hides count t words (placeOf m f .0) 0 0 s));
+            (bitmap-alike hides (fillPages t (placeOf m f) count 0 0) (fill words (placeOf m f .0) count 0) (freeRun m t i f count .bitmap)
+            (fill-alike hides count t words (placeOf m f .0) 0 0 s));
       })
 
   declare-alike : (r : Request) → SeenAlike hides (declare r) (declare r) (Declare.declare m r t) (Declare.declare m r t′)
   unfolding Declare.declare isVacant freeOrdinary fitsAt highestFit
   declare-alike r =
-      checked-alike hides (declare r) (declare r) m t t′ _ _ _ _ _ (same-refusal (declare r) (declare r) (λ _. refl)) same-shape
+      checks-alike (declare r) (declare r) (λ _. refl) _ _ _
       (λ passed. record { machine = refl; answer = refl; left = to-alike hides _ words (bitmap-alike hides t words _ s) })
 
   move-alike : (p : ℕ) → Alike hides (movePage m t (place p)) (movePage m t′ (place p))
@@ -210,21 +269,6 @@ mark-run-alike hides p count t t′ bitmap a =
     (bitmap-alike hides (markRun t (place p) count) (fill (set words p 0) (suc p) (count - 1) 0) bitmap
     (fill-alike hides (count - 1) first (set words p 0) (suc p) (markOf 0 5) 0 (set-alike hides t words p head 0 0 s (λ _. refl)))))
 
--- boots go by the lengths of the tables alone
-pub zero-lengths :
-    (t t′ : Tables) →
-    length (t .marks) ≡ length (t′ .marks) →
-    length (t .words) ≡ length (t′ .words) → length (t .bitmap) ≡ length (t′ .bitmap) → zeroTables t ≡ zeroTables t′
-zero-lengths t t′ a b c = rw (a, b, c)
-
-pub record-lengths :
-    (base frames order : ℕ) (text : List ℕ) (t t′ : Tables) →
-    length (t .marks) ≡ length (t′ .marks) →
-    length (t .words) ≡ length (t′ .words) →
-    length (t .bitmap) ≡ length (t′ .bitmap) → bootRecord base frames order text t ≡ bootRecord base frames order text t′
-unfolding bootRecord lengthsRight
-record-lengths base frames order text t t′ a b c = rw (a, b, c)
-
 pub zero-alike : (hides : ℕ → Bool) (t : Tables) → length (t .marks) ≡ length (t .words) → SameWords hides (zeroTables t) (zeroTables t .words)
 zero-alike hides t square =
     record {
@@ -241,7 +285,7 @@ module _ (hides : ℕ → Bool) (m : Machine) (t : Tables) (words : List ℕ) (s
   grant-alike i count order =
       let c = grant i count order in
       let p = placeOfBit m i (chosen m t i count order) .0 in
-      checked-alike hides c c m t (otherWords t words) _ _ _ _ _ (same-refusal hides m t words s c c (λ _. refl)) (same-shape hides m t words s)
+      checks-alike hides m t words s c c (λ _. refl) _ _ _
       (λ passed.
       record {
         machine = refl;
@@ -251,52 +295,30 @@ module _ (hides : ℕ → Bool) (m : Machine) (t : Tables) (words : List ℕ) (s
             (move-out-alike hides m count p t (otherWords t words) (to-alike hides t words s));
       })
 
-  booted-alike : (c : Call) (r : Read Machine) → SeenAlike hides c c (booted m t r) (booted m (otherWords t words) r)
-  booted-alike c (gives new at) =
-      record {
-        machine = refl;
-        answer = refl;
-        left = record {
-          words = zeroTables t .words;
-          is = zero-lengths (otherWords t words) t refl (s .lengths) refl;
-          alike = zero-alike hides t (s .square);
-        };
-      }
-  booted-alike c (refuses number at) = unchanged hides m t words s c c _ _ refl
-
-  boot-alike :
-      (base frames order : ℕ) (text : List ℕ) →
-      SeenAlike hides (boot base frames order text) (boot base frames order text) (Boot.boot m base frames order text t)
-      (Boot.boot m base frames order text (otherWords t words))
-  unfolding Boot.boot
-  boot-alike base frames order text =
-      rw (record-lengths base frames order text (otherWords t words) t refl (s .lengths) refl)
-      (booted-alike (boot base frames order text) (bootRecord base frames order text t))
-
-  same-alike : (c : Call) → SeenAlike hides c c (perform c m t) (perform c m (otherWords t words))
-  same-alike (putMovable name) = put-alike hides m t words s (putMovable name) 1 name
-  same-alike (putFixed name) = put-alike hides m t words s (putFixed name) 3 name
-  same-alike (dropPage name) = drop-alike hides m t words s name
-  same-alike (pinPage name) = kind-alike hides m t words s (pinPage name) 1 2 name (page-named name (markOf name 2) (rw (mark-kind name 2 (omega arith))) (mark-field name 2 (omega arith)))
-  same-alike (unpinPage name) = kind-alike hides m t words s (unpinPage name) 2 1 name (page-named name (markOf name 1) (rw (mark-kind name 1 (omega arith))) (mark-field name 1 (omega arith)))
-  same-alike (storePage name word) = store-alike hides m t words s name word word (λ _. refl)
-  same-alike (readPage name) = read-alike hides m t words s name
-  same-alike (grant area count order) = grant-alike area count order
-  same-alike (release area f count) = release-alike hides m t words s area f count
-  same-alike (deviceStore f word) = device-store-alike hides m t words s f word
-  same-alike (deviceRead f) = device-read-alike hides m t words s f
-  same-alike (declare request) = declare-alike hides m t words s request
-  same-alike (boot base frames order text) = boot-alike base frames order text
+  same-alike : (c : Call) → isBoot c ≡ false → SeenAlike hides c c (perform c m t) (perform c m (otherWords t words))
+  same-alike (putMovable name) e = put-alike hides m t words s (putMovable name) 1 name
+  same-alike (putFixed name) e = put-alike hides m t words s (putFixed name) 3 name
+  same-alike (dropPage name) e = drop-alike hides m t words s name
+  same-alike (pinPage name) e = kind-alike hides m t words s (pinPage name) 1 2 name (page-named name (markOf name 2) (rw (mark-kind name 2 (omega arith))) (mark-field name 2 (omega arith)))
+  same-alike (unpinPage name) e = kind-alike hides m t words s (unpinPage name) 2 1 name (page-named name (markOf name 1) (rw (mark-kind name 1 (omega arith))) (mark-field name 1 (omega arith)))
+  same-alike (storePage name word) e = store-alike hides m t words s name word word (λ _. refl)
+  same-alike (readPage name) e = read-alike hides m t words s name
+  same-alike (grant area count order) e = grant-alike area count order
+  same-alike (release area f count) e = release-alike hides m t words s area f count
+  same-alike (deviceStore f word) e = device-store-alike hides m t words s f word
+  same-alike (deviceRead f) e = device-read-alike hides m t words s f
+  same-alike (declare request) e = declare-alike hides m t words s request
+  same-alike (boot base frames order text) e = clash true refl e
 
 call-alike :
     (hides : ℕ → Bool) (m : Machine) (t : Tables) (words : List ℕ) (s : SameWords hides t words) {c d : Call} →
-    SameCall hides c d → SeenAlike hides c d (perform c m t) (perform d m (otherWords t words))
-call-alike hides m t words s (same c) = same-alike hides m t words s c
-call-alike hides m t words s (otherWord name word word′ e) = store-alike hides m t words s name word word′ (λ n. clash (hides name) e n)
+    SameCall hides c d → isBoot c ≡ false → SeenAlike hides c d (perform c m t) (perform d m (otherWords t words))
+call-alike hides m t words s (same c) b = same-alike hides m t words s c b
+call-alike hides m t words s (otherWord name word word′ e) b = store-alike hides m t words s name word word′ (λ n. clash (hides name) e n)
 
 pub own-alike :
     (hides : ℕ → Bool) (m m′ : Machine) (t t′ : Tables) (c d : Call) →
-    SameCall hides c d → m′ ≡ m → Alike hides t t′ → SeenAlike hides c d (perform c m t) (perform d m′ t′)
-own-alike hides m m′ t t′ c d call e a =
+    SameCall hides c d → isBoot c ≡ false → m′ ≡ m → Alike hides t t′ → SeenAlike hides c d (perform c m t) (perform d m′ t′)
+own-alike hides m m′ t t′ c d call b e a =
     subst (λ (x : Machine). SeenAlike hides c d (perform c m t) (perform d x t′)) (sym e)
-    (alike-words hides t t′ (λ x. SeenAlike hides c d (perform c m t) (perform d m x)) a (λ words s. call-alike hides m t words s call))
+    (alike-words hides t t′ (λ x. SeenAlike hides c d (perform c m t) (perform d m x)) a (λ words s. call-alike hides m t words s call b))

@@ -1,7 +1,8 @@
--- What the invariant says of a state: parts (1), (3) and (4) of demand 3. Assumes nothing.
+-- What the invariant says of a state: parts (1) to (4) of demand 3, of which (2) says more of the list. Assumes nothing.
 use Prim.Native.Nat.{ℕ, _+_, _-_, _≤_, _<_}
 use native.Mathlib.Omega.{arith}
 use mathlib.Core.Bool.{Bool, true, false, not}
+use mathlib.Core.Logic.{_≢_}
 use mathlib.Core.Path.{_≡_, refl, sym, ap, _∙_}
 use lib.Dec.{leb, ltb}
 use borrow.Author.Tests.{ltb-true, lt-ltb, le-ltb, lt-leb, not-false}
@@ -10,7 +11,7 @@ use Rattle.search.proofs.Bools.{by-cases, below-or-not, clash, or-neither}
 use Rattle.answer.specs.Answers.{done}
 use Rattle.frames.specs.declared.Frame.{Frame}
 use Rattle.frames.specs.Units.{frame, place}
-use Rattle.frames.specs.Marks.{isPageOf, isGranted}
+use Rattle.frames.specs.Marks.{kindOf, markOf, hasKind, isPageOf, isGranted, pinned}
 use Rattle.frames.specs.Tables.{Tables, markAt, wordAt}
 use Rattle.rules.specs.Record.{Machine, placeOf, frameAt, endFrame}
 use Rattle.rules.specs.Outcomes.{Outcome, outcome}
@@ -18,8 +19,9 @@ use Rattle.rules.specs.PageCalls.{pageAt, isLive, readPage}
 use Rattle.rules.specs.DeviceCalls.{deviceRead}
 use Rattle.rules.specs.ledger.Ledger.{grantsAt}
 use Rattle.rules.specs.ledger.Runs.{State, isRefused}
-use Rattle.rules.specs.ledger.Statement.{isLiveFrame, ReadsRight, GrantsRight, DeviceWordsRight}
+use Rattle.rules.specs.ledger.Statement.{isLiveFrame, markOfPage, ReadsRight, PinsRight, GrantsRight, DeviceWordsRight}
 use Rattle.rules.proofs.Checks.{checked-cases, checked-passed}
+use Rattle.rules.proofs.ledger.Marks.{has-kind, kind-has, page-field}
 use Rattle.rules.proofs.ledger.Names.{live-is}
 use Rattle.rules.proofs.ledger.Grants.{at-among, takes-low, takes-high}
 use Rattle.rules.proofs.ledger.Kept.{refused-number}
@@ -71,6 +73,39 @@ module _ (s : State) (sound : SoundState s) where
         onlyFrame = λ name p h e.
             let live = read-only name p h e in
             ap (λ (x : ℕ). m .base .0 + x) (found name live .only p h e) ∙ sym (ap (λ (o : Outcome). o .answer .first) (read-done name live));
+      }
+
+  -- ---- (2) pinned pages
+
+  module _ (name : ℕ) where
+    page-mark : markOfPage s name ≡ markAt t (pageAt m t name)
+    page-mark =
+        let back : m .base .0 + pageAt m t name .0 - m .base .0 ≡ pageAt m t name .0 = omega arith in
+        ap (λ (x : ℕ). markAt t (place x)) back
+
+    pin-found : s .ledger .pinned name ≡ true → FoundPage m t (s .ledger) name
+    pin-found e = found name (sound .names name .pinnedLive e)
+
+    pin-marked : s .ledger .pinned name ≡ true → markOfPage s name ≡ markOf name pinned
+    pin-marked e =
+        let mark = markAt t (pageAt m t name) in
+        let kind = has-kind pinned mark (pin-found e .pinned ∙ e) in
+        let field = page-field name mark (pin-found e .here) in
+        let same = page-mark in
+        omega arith
+
+    not-marked : s .ledger .live name ≡ true → s .ledger .pinned name ≡ false → kindOf (markOfPage s name) ≢ pinned
+    not-marked live e k =
+        clash (hasKind pinned (markOfPage s name)) (kind-has pinned (markOfPage s name) k)
+        (ap (hasKind pinned) page-mark ∙ found name live .pinned ∙ e)
+
+  pub pins-right : PinsRight s
+  pins-right =
+      record {
+        live = λ name. sound .names name .pinnedLive;
+        inside = λ name e. let h = pin-found name e .inside in (omega arith, omega arith);
+        marked = pin-marked;
+        unmarked = not-marked;
       }
 
   -- ---- (3) grants

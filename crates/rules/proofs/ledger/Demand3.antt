@@ -13,25 +13,22 @@ use Rattle.regions.specs.Reading.{Read, gives, refuses}
 use Rattle.rules.specs.Record.{Machine}
 use Rattle.rules.specs.Boot.{zeroTables, bootRecord, booted, boot}
 use Rattle.rules.proofs.Shapes.{shape-known}
-use Rattle.rules.specs.ledger.Runs.{Item, State, isRefused, startOf, after, admitted}
-use Rattle.rules.specs.ledger.Statement.{Boot, outcomeOfBoot, startOfBoot, SameLengths, SameBoot, Theorem}
+use Rattle.rules.specs.promises.Changes.{SameLengths}
+use Rattle.rules.specs.ledger.Runs.{Item, isRefused, startOf, after, admitted}
+use Rattle.rules.specs.ledger.Statement.{Boot, outcomeOfBoot, startOfBoot, SameBoot, Theorem}
+use Rattle.rules.proofs.promises.Boots.{zero-lengths, record-lengths}
 use Rattle.rules.proofs.ledger.BootCall.{Fine, boot-fine, boot-sound}
 use Rattle.rules.proofs.ledger.Histories.{SoundState, list-sound, list-pins}
-use Rattle.rules.proofs.ledger.Conclusions.{reads-right, grants-right, device-words-right}
-use Rattle.rules.proofs.ledger.OtherWords.{Alike}
-use Rattle.rules.proofs.ledger.CallsAlike.{zero-lengths, record-lengths, zero-alike}
-use Rattle.rules.proofs.ledger.TwoRuns.{lists-agree}
+use Rattle.rules.proofs.ledger.Conclusions.{reads-right, pins-right, grants-right, device-words-right}
+use Rattle.rules.proofs.ledger.CallsAlike.{zero-alike}
+use Rattle.rules.proofs.ledger.TwoRuns.{StatesAlike, lists-agree}
 
 -- two accepted boots that make the same record, lent tables of the same lengths
-record StartAlike (hides : ℕ → Bool) (s s′ : State) : Type 0 where
-  pub machine : s′ .machine ≡ s .machine
-  pub own : Alike hides (s .own) (s′ .own)
-
 outcome-alike :
     (hides : ℕ → Bool) (given given′ : Machine) (t t′ : Tables) →
     SameLengths t t′ →
     (r : Read Machine) →
-    Fine (zeroTables t) r → isRefused (booted given t r) ≡ false → StartAlike hides (startOf (booted given t r)) (startOf (booted given′ t′ r))
+    Fine (zeroTables t) r → isRefused (booted given t r) ≡ false → StatesAlike hides (startOf (booted given t r)) (startOf (booted given′ t′ r))
 outcome-alike hides given given′ t t′ l (gives m at) fine e =
     let shaped = shape-known m (zeroTables t) (fine .0) in
     let square : length (t .marks) ≡ length (t .words) =
@@ -41,21 +38,21 @@ outcome-alike hides given given′ t t′ l (gives m at) fine e =
       machine = refl;
       own = record {
         words = zeroTables t .words;
-        is = sym (zero-lengths t t′ (l .marks) (l .words) (l .bitmap));
+        is = zero-lengths t t′ l;
         alike = zero-alike hides t square;
       };
     }
 outcome-alike hides given given′ t t′ l (refuses number at) fine e = let none = eqb-true number 0 (not-false (eqb number 0) e) in absurd (omega arith)
 
 start-alike :
-    (hides : ℕ → Bool) (b c : Boot) → SameBoot b c → isRefused (outcomeOfBoot b) ≡ false → StartAlike hides (startOfBoot b) (startOfBoot c)
+    (hides : ℕ → Bool) (b c : Boot) → SameBoot b c → isRefused (outcomeOfBoot b) ≡ false → StatesAlike hides (startOfBoot b) (startOfBoot c)
 unfolding boot
 start-alike hides b c same e =
     let record-same : bootRecord (c .base) (c .frames) (c .order) (c .text) (c .lent) ≡ bootRecord (b .base) (b .frames) (b .order) (b .text) (b .lent) =
     rw (same .base, same .frames, same .order, same .text)
-    (sym (record-lengths (c .base) (c .frames) (c .order) (c .text) (b .lent) (c .lent) (same .lengths .marks) (same .lengths .words) (same .lengths .bitmap)))
+    (record-lengths (b .lent) (c .lent) (same .lengths) (c .base) (c .frames) (c .order) (c .text))
     in
-    subst (λ (r : Read Machine). StartAlike hides (startOfBoot b) (startOf (booted (c .given) (c .lent) r))) (sym record-same)
+    subst (λ (r : Read Machine). StatesAlike hides (startOfBoot b) (startOf (booted (c .given) (c .lent) r))) (sym record-same)
     (outcome-alike hides (b .given) (c .given) (b .lent) (c .lent) (same .lengths) (bootRecord (b .base) (b .frames) (b .order) (b .text) (b .lent))
     (boot-fine (b .base) (b .frames) (b .order) (b .text) (b .lent)) e)
 
@@ -71,13 +68,13 @@ theorem b items accepted ok =
     let sound = invariant b items accepted ok in
     record {
       reads = reads-right (after (startOfBoot b) items) sound;
+      pinned = pins-right (after (startOfBoot b) items) sound;
       pins = record { stays = λ name none. list-pins name items (startOfBoot b) none start ok (λ e. clash false e refl) };
       grants = grants-right (after (startOfBoot b) items) sound;
       deviceWords = device-words-right (after (startOfBoot b) items) sound;
       runs = λ c same.
           record {
             agree = λ chosen items′ list.
-                let both = start-alike chosen b c same accepted in
-                lists-agree chosen list (startOfBoot b) (startOfBoot c) (both .machine) (both .own);
+                lists-agree chosen list (startOfBoot b) (startOfBoot c) (start-alike chosen b c same accepted) ok;
           };
     }

@@ -28,7 +28,7 @@ use Rattle.rules.specs.DeviceCalls as Device
 use Rattle.rules.specs.Calls.{grant}
 use Rattle.rules.proofs.Shapes.{shape-known}
 use Rattle.rules.specs.ledger.Ledger.{Grant, Ledger, grantOf, takes, withGrants}
-use Rattle.rules.specs.ledger.Invariant.{InArea, BitsSound, Sound}
+use Rattle.rules.specs.ledger.Invariant.{GrantInArea, BitsSound, Sound}
 use Rattle.rules.proofs.Checks.{checked-cases}
 use Rattle.rules.proofs.ledger.Marks.{isPage, page-of}
 use Rattle.frames.proofs.FillFacts.{length-fill}
@@ -133,7 +133,7 @@ module _ (m : Machine) (t : Tables) (l : Ledger) (s : Sound m t l) (i count : �
     abbrev new : Grant
     new = grantOf (frame answered) count
 
-    lies-in : InArea m new
+    lies-in : GrantInArea m new
     lies-in =
         record {
           area = i;
@@ -163,7 +163,7 @@ module _ (m : Machine) (t : Tables) (l : Ledger) (s : Sound m t l) (i count : �
     granted =
         subst (λ (x : ℕ). Sound m t₂ (entered x)) first-frame
         (grant-sound m t₁ t₂ l (out .sound) r count (ok .some) in-memory (out .emptied) marked shape₂
-        (subst (λ (x : ℕ). InArea m (grantOf (frame x) count)) (sym first-frame) lies-in) bits₂)
+        (subst (λ (x : ℕ). GrantInArea m (grantOf (frame x) count)) (sym first-frame) lies-in) bits₂)
 
     granted-stays : (x : ℕ) → l .pinned x ≡ true → pageAt m t₂ x ≡ pageAt m t x
     granted-stays x b =

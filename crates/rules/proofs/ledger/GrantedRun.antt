@@ -23,7 +23,7 @@ use Rattle.rules.specs.Record.{Machine, frameAt}
 use Rattle.rules.specs.Shape.{shapeRight}
 use Rattle.rules.specs.DeviceCalls.{markRun}
 use Rattle.rules.specs.ledger.Ledger.{Grant, Ledger, grantOf, takes, sameGrant, grantsAt, isAmong, withGrants}
-use Rattle.rules.specs.ledger.Invariant.{PlaceSound, InArea, GrantSound, BitsSound, Sound}
+use Rattle.rules.specs.ledger.Invariant.{PlaceSound, GrantInArea, GrantSound, BitsSound, Sound}
 use Rattle.rules.proofs.ledger.Marks.{isPage, mark-kind, free-page, free-granted, granted-page}
 use Rattle.frames.proofs.FillFacts.{getD-fill-in, getD-fill-below, getD-fill-above}
 use Rattle.rules.proofs.Divisions.{up-low}
@@ -159,7 +159,7 @@ module _ (m : Machine) (t t′ : Tables) (l : Ledger) (s : Sound m t l) (r count
       grant-moved m t t′ h old
       (λ p a b. marked .outside .marks p (λ u v. clash (isGranted (markAt t (place p))) (granted-mark m t h old p a b) (was-ungranted p u v)))
 
-  new-grant : InArea m g → GrantSound m t′ g
+  new-grant : GrantInArea m g → GrantSound m t′ g
   new-grant area =
       record {
         some = some;
@@ -170,7 +170,7 @@ module _ (m : Machine) (t t′ : Tables) (l : Ledger) (s : Sound m t l) (r count
         inArea = area;
       }
 
-  all-grants : InArea m g → (h : Grant) → isAmong (g ∷ l .grants) h ≡ true → GrantSound m t′ h
+  all-grants : GrantInArea m g → (h : Grant) → isAmong (g ∷ l .grants) h ≡ true → GrantSound m t′ h
   all-grants area h e =
       by-cases (sameGrant g h) (λ k. subst (λ (x : Grant). GrantSound m t′ x) (same-grant g h k) (new-grant area))
       (λ k. old-grant h (s .grants h (sym (ap (λ (b : Bool). b || isAmong (l .grants) h) k) ∙ sym (among-cons g (l .grants) h) ∙ e)))
@@ -198,7 +198,7 @@ module _ (m : Machine) (t t′ : Tables) (l : Ledger) (s : Sound m t l) (r count
       let before = s .total in
       omega arith
 
-  pub grant-sound : shapeRight m t′ ≡ true → InArea m g → BitsSound m t′ → Sound m t′ l′
+  pub grant-sound : shapeRight m t′ ≡ true → GrantInArea m g → BitsSound m t′ → Sound m t′ l′
   grant-sound shape area bits =
       record {
         shape = shape;

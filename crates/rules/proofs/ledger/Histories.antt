@@ -4,18 +4,16 @@ use native.Mathlib.Omega.{arith}
 use mathlib.Core.Bool.{Bool, true, false, not, _&&_, _||_}
 use mathlib.Core.List.{List, [], _∷_}
 use mathlib.Core.Path.{_≡_, refl, sym, ap, subst, _∙_}
-use borrow.Author.Tests.{not-true, eqb-false}
 use Rattle.search.specs.Choice.{if_then_else_}
 use Rattle.search.proofs.Bools.{by-cases, clash, and-left, and-right}
 use Rattle.frames.specs.declared.Place.{Place}
 use Rattle.frames.specs.Tables.{Tables}
-use Rattle.rules.specs.Record.{Machine, frameAt}
+use Rattle.rules.specs.Record.{Machine}
 use Rattle.rules.specs.PageCalls.{pageAt}
 use Rattle.rules.specs.Calls.{Call, putMovable, putFixed, dropPage, pinPage, unpinPage, storePage, readPage, grant, release, deviceStore, deviceRead, declare, boot, perform}
-use Rattle.rules.specs.ledger.Ledger.{Ledger, fed}
-use Rattle.rules.specs.ledger.Runs.{Item, onOwn, onOther, callOf, State, isRefused, outcomeIn, next, after, isBoot, mayPass, admitted, frameOfPage, isPinOf, lastPinFrame}
+use Rattle.rules.specs.ledger.Ledger.{Ledger}
+use Rattle.rules.specs.ledger.Runs.{Item, onOwn, State, isRefused, outcomeIn, next, after, isBoot, mayPass, admitted, frameOfPage, isPinOf, lastPinFrame}
 use Rattle.rules.specs.ledger.Invariant.{Sound}
-use Rattle.rules.proofs.promises.Unchanged.{refusal-changes-nothing}
 use Rattle.rules.proofs.ledger.Kept.{Kept}
 use Rattle.rules.proofs.ledger.PutCalls.{put-kept}
 use Rattle.rules.proofs.ledger.PageCalls.{drop-kept, pin-kept, unpin-kept, store-kept, read-kept}
@@ -23,33 +21,29 @@ use Rattle.rules.proofs.ledger.DeviceWords.{device-store-kept, device-r
 use Rattle.rules.proofs.ledger.Release.{release-kept}
 use Rattle.rules.proofs.ledger.GrantCall.{grant-kept}
 use Rattle.rules.proofs.ledger.DeclareCall.{declare-kept}
-use Rattle.rules.proofs.ledger.BootCall.{boot-kept}
+use Rattle.rules.proofs.ledger.Items.{refused-item, item-cases}
 
 -- ---- one call
 
 module _ (m : Machine) (t : Tables) (l : Ledger) (s : Sound m t l) where
-  pub perform-kept : (c : Call) → (isBoot c ≡ true → isRefused (perform c m t) ≡ true) → Kept c m t l (perform c m t)
-  perform-kept (putMovable name) refused =
+  pub perform-kept : (c : Call) → isBoot c ≡ false → Kept c m t l (perform c m t)
+  perform-kept (putMovable name) e =
       put-kept m t l s name (putMovable name) 1 (record { small = omega arith; page = refl; pin = refl; full = refl; ungranted = refl })
-      (λ e. clash false e refl) (λ _. refl)
-  perform-kept (putFixed name) refused =
+      (λ k. clash false k refl) (λ _. refl)
+  perform-kept (putFixed name) e =
       put-kept m t l s name (putFixed name) 3 (record { small = omega arith; page = refl; pin = refl; full = refl; ungranted = refl }) (λ _. refl)
       (λ _. refl)
-  perform-kept (dropPage name) refused = drop-kept m t l s name
-  perform-kept (pinPage name) refused = pin-kept m t l s name
-  perform-kept (unpinPage name) refused = unpin-kept m t l s name
-  perform-kept (storePage name word) refused = store-kept m t l s name word
-  perform-kept (readPage name) refused = read-kept m t l s name
-  perform-kept (grant area count order) refused = grant-kept m t l s area count order
-  perform-kept (release area f count) refused = release-kept m t l s area f count
-  perform-kept (deviceStore f word) refused = device-store-kept m t l s f word
-  perform-kept (deviceRead f) refused = device-read-kept m t l s f
-  perform-kept (declare request) refused = declare-kept m request t l s
-  perform-kept (boot base frames order text) refused = boot-kept m base frames order text t l s (refused refl)
-
--- a refused call returns the record that it was given
-refused-machine : (m : Machine) (t : Tables) (c : Call) → isRefused (perform c m t) ≡ true → perform c m t .machine ≡ m
-refused-machine m t c e = refusal-changes-nothing c m t (eqb-false (perform c m t .answer .refusal) 0 (not-true _ e)) .0
+  perform-kept (dropPage name) e = drop-kept m t l s name
+  perform-kept (pinPage name) e = pin-kept m t l s name
+  perform-kept (unpinPage name) e = unpin-kept m t l s name
+  perform-kept (storePage name word) e = store-kept m t l s name word
+  perform-kept (readPage name) e = read-kept m t l s name
+  perform-kept (grant area count order) e = grant-kept m t l s area count order
+  perform-kept (release area f count) e = release-kept m t l s area f count
+  perform-kept (deviceStore f word) e = device-store-kept m t l s f word
+  perform-kept (deviceRead f) e = device-read-kept m t l s f
+  perform-kept (declare request) e = declare-kept m request t l s
+  perform-kept (boot base frames order text) e = clash true refl e
 
 -- ---- one item
 
@@ -58,25 +52,25 @@ SoundState s = Sound (s .machine) (s .own) (s .ledger)
 
 -- the item is an accepted pin of that name
 abbrev pub pinsNow : State → Item → ℕ → Bool
-pinsNow s x name = isPinOf name (callOf x) && not (isRefused (outcomeIn s x))
+pinsNow s x name = isPinOf name (x .call) && not (isRefused (outcomeIn s x))
 
 pub record ItemKept (s : State) (x : Item) : Type 0 where
   pub sound : SoundState (next s x)
   pub wasPinned : (name : ℕ) → pinsNow s x name ≡ false → next s x .ledger .pinned name ≡ true → s .ledger .pinned name ≡ true
   pub stays : (name : ℕ) → pinsNow s x name ≡ false → next s x .ledger .pinned name ≡ true → frameOfPage (next s x) name ≡ frameOfPage s name
 
-boot-refused : (b : Bool) (c : Call) → (b || not (isBoot c)) ≡ true → isBoot c ≡ true → b ≡ true
-boot-refused true c e k = refl
-boot-refused false c e k = clash (isBoot c) k (not-true (isBoot c) e)
+same-kept : (s : State) (x : Item) → SoundState s → next s x ≡ s → ItemKept s x
+same-kept s x sound same =
+    record {
+      sound = subst SoundState (sym same) sound;
+      wasPinned = λ name a b. sym (ap (λ (k : State). k .ledger .pinned name) same) ∙ b;
+      stays = λ name a b. ap (λ (k : State). frameOfPage k name) same;
+    }
 
-other-refused : (b : Bool) → (b || false) ≡ true → b ≡ true
-other-refused true e = refl
-other-refused false e = e
-
-pub item-kept : (s : State) (x : Item) → SoundState s → (isRefused (outcomeIn s x) || mayPass x) ≡ true → ItemKept s x
+call-kept : (s : State) (c : Call) → SoundState s → isBoot c ≡ false → ItemKept s (onOwn c)
 unfolding next
-item-kept s (onOwn c) sound e =
-    let kept = perform-kept (s .machine) (s .own) (s .ledger) sound c (boot-refused (isRefused (perform c (s .machine) (s .own))) c e) in
+call-kept s c sound e =
+    let kept = perform-kept (s .machine) (s .own) (s .ledger) sound c e in
     record {
       sound = kept .sound;
       wasPinned = λ name a b. kept .pins name a b .wasPinned;
@@ -85,18 +79,9 @@ item-kept s (onOwn c) sound e =
           ap (λ (p : Place). perform c (s .machine) (s .own) .machine .base .0 + p .0) (k .place) ∙
           ap (λ (x : ℕ). x + pageAt (s .machine) (s .own) name .0) (k .base);
     }
-item-kept s (onOther c u) sound e =
-    let refused = other-refused (isRefused (perform c (s .machine) u)) e in
-    let same = refused-machine (s .machine) u c refused in
-    let told = fed c (isRefused (perform c (s .machine) u)) (perform c (s .machine) u .answer .first) (s .ledger) in
-    let ledger : told ≡ s .ledger =
-    ap (λ (b : Bool). fed c b (perform c (s .machine) u .answer .first) (s .ledger)) refused
-    in
-    record {
-      sound = subst (λ (k : Machine). Sound k (s .own) told) (sym same) (subst (λ (k : Ledger). Sound (s .machine) (s .own) k) (sym ledger) sound);
-      wasPinned = λ name a b. sym (ap (λ (k : Ledger). k .pinned name) ledger) ∙ b;
-      stays = λ name a b. ap (λ (k : Machine). frameAt k (pageAt k (s .own) name) .0) same;
-    }
+
+pub item-kept : (s : State) (x : Item) → SoundState s → (isRefused (outcomeIn s x) || mayPass x) ≡ true → ItemKept s x
+item-kept s x sound e = item-cases (ItemKept s) s x e (λ r. same-kept s x sound (refused-item s x r)) (call-kept s (x .call) sound)
 
 -- ---- a list
 

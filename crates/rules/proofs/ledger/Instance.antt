@@ -1,14 +1,16 @@
 -- The theorem at one boot and one list: its hypotheses hold there, and what it says is computed. Assumes nothing.
 use Prim.Native.Nat.{ℕ}
 use mathlib.Core.Bool.{Bool, true, false, not}
-use mathlib.Core.List.{List, [], _∷_}
+use mathlib.Core.List.{List, [], _∷_, _++_}
 use native.Mathlib.Omega.{arith}
+use mathlib.Core.Logic.{_≢_}
 use mathlib.Core.Path.{_≡_, refl, _∙_}
 use Rattle.answer.specs.Answers.{done, refused, refusedAt}
 use Rattle.search.specs.Search.{lowestFrom, lowest, some, every, howMany, highestFrom}
 use Rattle.bitmap.specs.Bits.{isClear, changeBit, changeBits}
 use Rattle.frames.specs.Units.{frame}
 use Rattle.frames.specs.Areas.{inAreas, firstWord}
+use Rattle.frames.specs.Marks.{kindOf, markOf, pinned}
 use Rattle.frames.specs.Tables.{fill}
 use Rattle.regions.specs.Amounts.{digitOf, digitsEnd, digitsValue, unitOf, digits, number, isPowerOfTwo, amount}
 use Rattle.regions.specs.Text.{isNameByte, nameLength, isNamed, sameBytes, region, regionsFrom, regions}
@@ -19,9 +21,9 @@ use Rattle.rules.specs.DeviceCalls.{isCandidate, isGrantable, chosen, mo
 use Rattle.rules.specs.Declare.{alignmentFor, baseFor, sizeFor, limitFor, isVacant, fitsAt, highestFit, declare}
 use Rattle.rules.specs.Boot.{declareAll, bootRecord, boot}
 use Rattle.rules.specs.ledger.Ledger.{grantOf, grantsAt, without, update}
-use Rattle.rules.specs.ledger.Runs.{Item, onOwn, onOther, State, isRefused, next, after, admitted, frameOfPage, lastPinFrame, SameList, same, otherWord, none, own, other, seenAnswers}
-use Rattle.rules.specs.ledger.Statement.{pageRead, frameRead, isGrantedPlace, isLiveFrame, outcomeOfBoot, startOfBoot, Demand3}
-use Rattle.rules.specs.ledger.Instance.{instanceBoot, instanceList, fiveAndSix}
+use Rattle.rules.specs.ledger.Runs.{Item, State, isRefused, next, after, admitted, frameOfPage, lastPinFrame, SameList, same, otherWord, none, more, seenAnswers}
+use Rattle.rules.specs.ledger.Statement.{pageRead, frameRead, markOfPage, isGrantedPlace, isLiveFrame, outcomeOfBoot, startOfBoot, Demand3}
+use Rattle.rules.specs.ledger.Instance.{instanceBoot, placed, afterStores, instanceList, fiveAndSix}
 use Rattle.rules.proofs.ledger.Demand3.{theorem}
 
 abbrev start : State
@@ -38,6 +40,7 @@ record Computed : Type 0 where
   -- every answer
   pub answers :
       seenAnswers (λ _. false) start (instanceList 77) ≡
+      -- placed
       done 12 4 ∷
       done 4 0 ∷
       done 5 0 ∷
@@ -48,11 +51,40 @@ record Computed : Type 0 where
       done 0 0 ∷
       done 0 0 ∷
       done 0 0 ∷
+      -- stored
+      done 0 0 ∷
       refused 5 ∷
       refused 1 ∷
+      -- refusedOnOwn
+      refused 4 ∷
+      refused 6 ∷
+      refused 5 ∷
+      refused 5 ∷
+      refused 5 ∷
       refused 3 ∷
+      refused 3 ∷
+      refused 8 ∷
+      refused 3 ∷
+      refused 3 ∷
+      refused 2 ∷
+      refused 2 ∷
       refusedAt 1 0 ∷
+      -- refusedOnOthers
+      refused 6 ∷
+      refused 4 ∷
+      refused 3 ∷
+      refused 3 ∷
+      refused 5 ∷
+      refused 1 ∷
+      refused 1 ∷
+      refused 7 ∷
+      refused 14 ∷
+      refused 9 ∷
+      refused 3 ∷
+      refused 1 ∷
       refusedAt 20 0 ∷
+      -- granted
+      done 0 0 ∷
       done 0 0 ∷
       done 9 1 ∷
       done 12 0 ∷
@@ -64,11 +96,12 @@ record Computed : Type 0 where
       done 6 33 ∷
       done 55 0 ∷
       []
-  -- the ledger: pages 6 and 2, the pin of page 5, the one live grant, its word, and the totals
+  -- the ledger: pages 6 and 2, the pin of page 5 and the unpin of page 6, the one live grant, its word, and the totals
   pub six-live : end .ledger .live 6 ≡ true
   pub six-word : end .ledger .word 6 ≡ 77
   pub two-gone : end .ledger .live 2 ≡ false
   pub five-pinned : end .ledger .pinned 5 ≡ true
+  pub six-unpinned : end .ledger .pinned 6 ≡ false
   pub five-frame : lastPinFrame 5 0 start (instanceList 77) ≡ 8
   pub one-grant : end .ledger .grants ≡ grantOf (frame 9) 1 ∷ []
   pub nine-live : isLiveFrame end (frame 9) ≡ true
@@ -88,6 +121,7 @@ computed =
       six-word = refl;
       two-gone = refl;
       five-pinned = refl;
+      six-unpinned = refl;
       five-frame = refl;
       one-grant = refl;
       nine-live = refl;
@@ -112,6 +146,13 @@ read-two = demand3-here .reads .accepted 2 ∙ computed .two-gone
 pub five-stays : frameOfPage end 5 ≡ 8
 five-stays = demand3-here .pins .stays 5 0 (computed .five-pinned) ∙ computed .five-frame
 
+pub five-marked : markOfPage end 5 ≡ markOf 5 pinned
+five-marked = demand3-here .pinned .marked 5 (computed .five-pinned)
+
+-- page 6 was pinned, and is no longer
+pub six-not-pinned : kindOf (markOfPage end 6) ≢ pinned
+six-not-pinned = demand3-here .pinned .unmarked 6 (computed .six-live) (computed .six-unpinned)
+
 -- (3) one frame is granted: three were, and two were released
 pub one-granted : howMany (isGrantedPlace end) 0 (end .machine .frames) ≡ 1
 one-granted =
@@ -127,22 +168,16 @@ nine-read = demand3-here .deviceWords .given (frame 9) (computed .nine-live) ∙
 pub thirteen-refused : not (isRefused (frameRead end (frame 13))) ≡ false
 thirteen-refused = demand3-here .deviceWords .accepted (frame 13) ∙ computed .thirteen-free
 
--- (5) other words to pages 6 and 5, of which the second is refused, after a boot on other tables: the same answers, but for the words that reads of
--- these pages give
-all-same : (chosen : ℕ → Bool) (xs : List Item) → SameList chosen xs xs
-all-same chosen [] = none
-all-same chosen (onOwn c ∷ xs) = own (same c) (all-same chosen xs)
-all-same chosen (onOther c t ∷ xs) = other (same c) (all-same chosen xs)
+-- (5) other words to pages 6 and 5, after a boot on other tables: the same answers, but for the words that reads of these pages give
+same-first :
+    (chosen : ℕ → Bool) (first : List Item) {xs ys : List Item} → SameList chosen xs ys → SameList chosen (first ++ xs) (first ++ ys)
+same-first chosen [] rest = rest
+same-first chosen (x ∷ first) rest = more (same (x .call)) (same-first chosen first rest)
 
 other-words : SameList fiveAndSix (instanceList 77) (instanceList 78)
 other-words =
-    own (same _)
-    (own (same _)
-    (own (same _)
-    (own (same _)
-    (own (same _)
-    (own (same _)
-    (own (same _) (own (same _) (own (otherWord 6 77 78 refl) (own (same _) (own (otherWord 5 77 78 refl) (all-same fiveAndSix _)))))))))))
+    same-first fiveAndSix placed
+    (more (otherWord 6 77 78 refl) (more (otherWord 5 77 78 refl) (more (otherWord 6 77 78 refl) (same-first fiveAndSix afterStores none))))
 
 pub runs-agree :
     seenAnswers fiveAndSix (startOfBoot (instanceBoot 9)) (instanceList 77) ≡ seenAnswers fiveAndSix (startOfBoot (instanceBoot 3)) (instanceList 78)

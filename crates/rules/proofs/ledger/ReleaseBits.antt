@@ -19,7 +19,7 @@ use Rattle.frames.specs.Tables.{Tables, markAt}
 use Rattle.rules.specs.Record.{Machine, areaAt, placeOf, frameAt}
 use Rattle.rules.specs.DeviceCalls.{placeOfBit, bitmapOf}
 use Rattle.rules.specs.ledger.Ledger.{Grant, Ledger, grantOf, isAmong, without}
-use Rattle.rules.specs.ledger.Invariant.{InArea, hasGranted, BitsSound, Sound}
+use Rattle.rules.specs.ledger.Invariant.{GrantInArea, hasGranted, BitsSound, Sound}
 use Rattle.rules.proofs.AreaRight.{AreaFacts, area-facts}
 use Rattle.rules.proofs.ledger.FrameRuns.{RunChange, in-run-or-not}
 use Rattle.rules.proofs.ledger.Grants.{takes-low, takes-high, low-takes, among-at, TakenBy, at-among, without-among}
@@ -91,7 +91,7 @@ module _ (m : Machine) (t : Tables) (l : Ledger) (s : Sound m t l) (i : ℕ) (f 
     -- the other grant lies in the same area
     in-same-area :
         (h : Grant) →
-        h .first .0 ≤ m .base .0 + q → m .base .0 + q < h .first .0 + h .count → InArea m h → isAmong (without (l .grants) g) h ≡ true → ⊥
+        h .first .0 ≤ m .base .0 + q → m .base .0 + q < h .first .0 + h .count → GrantInArea m h → isAmong (without (l .grants) g) h ≡ true → ⊥
     in-same-area h from to home other =
         let low = area .low in
         let frames = bit-frames in

@@ -1,50 +1,87 @@
 -- Two runs of the same calls, that differ only in words stored to chosen names, agree: part (5) of demand 3. Assumes nothing.
 use Prim.Native.Nat.{ℕ}
-use mathlib.Core.Bool.{Bool}
-use mathlib.Core.List.{List, [], _∷_}
-use mathlib.Core.Path.{_≡_, refl, sym, subst}
-use Rattle.search.proofs.Bools.{by-cases}
-use Rattle.frames.specs.Tables.{Tables}
+use mathlib.Core.Bool.{Bool, true, false, not, _||_}
+use mathlib.Core.List.{List, _∷_}
+use mathlib.Core.Path.{_≡_, refl, sym, ap, subst, _∙_}
+use lib.Dec.{eqb}
+use lib.ListN.{length}
+use Rattle.search.proofs.Bools.{and-left, and-right}
+use Rattle.answer.specs.declared.Answer.{Answer}
 use Rattle.rules.specs.Record.{Machine}
-use Rattle.rules.specs.Outcomes.{Outcome, Check, refuse, checked}
-use Rattle.rules.specs.PageCalls as Page
-use Rattle.rules.specs.Calls.{Call, storePage, perform}
-use Rattle.rules.specs.ledger.Runs.{Item, onOwn, onOther, State, next, SameCall, same, otherWord, SameList, none, own, other, seen, seenAnswers}
-use Rattle.rules.proofs.ledger.OtherWords.{Alike}
-use Rattle.rules.proofs.ledger.CallsAlike.{own-alike}
+use Rattle.rules.specs.Calls.{Call, perform}
+use Rattle.rules.specs.ledger.Runs.{Lent, own, another, Item, item, onOwn, State, isRefused, lentAs, lentTo, outcomeIn, next, isBoot, mayPass, admitted, SameCall, same, otherWord, SameList, none, more, seen, seenAnswers}
+use Rattle.rules.proofs.ledger.Items.{refused-item, item-cases}
+use Rattle.rules.proofs.ledger.OtherWords.{Alike, alike-words}
+use Rattle.rules.proofs.ledger.CallsAlike.{RefusedAlike, refused-alike, own-alike}
 
--- ---- a call that is lent the same other tables in both runs
+-- the runs' records are the same, and their own tables differ only in hidden words
+pub record StatesAlike (hides : ℕ → Bool) (s s′ : State) : Type 0 where
+  pub machine : s′ .machine ≡ s .machine
+  pub own : Alike hides (s .own) (s′ .own)
 
-record SeenSame (hides : ℕ → Bool) (c d : Call) (o o′ : Outcome) : Type 0 where
-  pub machine : o′ .machine ≡ o .machine
-  pub answer : seen hides c (o .answer) ≡ seen hides d (o′ .answer)
+record ItemsAlike (hides : ℕ → Bool) (s s′ : State) (x y : Item) : Type 0 where
+  pub answer : seen hides (x .call) (outcomeIn s x .answer) ≡ seen hides (y .call) (outcomeIn s′ y .answer)
+  pub states : StatesAlike hides (next s x) (next s′ y)
 
-checked-same : (m : Machine) (t : Tables) (P : Outcome → Outcome → Type 0) (cs : List Check) (o o′ : Outcome) → ((n : ℕ) → P (refuse m t n) (refuse m t n)) → P o o′ → P (checked m t cs o) (checked m t cs o′)
-unfolding checked
-checked-same m t P [] o o′ refusal p = p
-checked-same m t P (k ∷ ks) o o′ refusal p = by-cases (k .holds) (λ y. rw y (refusal (k .number))) (λ n. rw n (checked-same m t P ks o o′ refusal p))
+-- the item of the other run: another call that is lent the same
+abbrev withCall : Item → Call → Item
+withCall x d = item d (x .marks) (x .words) (x .bitmap)
 
-other-call : (hides : ℕ → Bool) (m : Machine) (t : Tables) {c d : Call} → SameCall hides c d → SeenSame hides c d (perform c m t) (perform d m t)
-unfolding Page.storePage
-other-call hides m t (same c) = record { machine = refl; answer = refl }
-other-call hides m t (otherWord name word word′ e) =
-    checked-same m t (SeenSame hides (storePage name word) (storePage name word′)) _ _ _ (λ n. record { machine = refl; answer = refl }) (record { machine = refl; answer = refl })
+-- ---- an item that is refused: nothing changes in either run
+
+lent-length : (l : Lent) (was was′ : List ℕ) → length was′ ≡ length was → length (lentAs l was′) ≡ length (lentAs l was)
+lent-length own was was′ e = e
+lent-length (another table) was was′ e = refl
+
+seen-same : (hides : ℕ → Bool) {c d : Call} → SameCall hides c d → (a : Answer) → seen hides c a ≡ seen hides d a
+seen-same hides (same c) a = refl
+seen-same hides (otherWord name word word′ e) a = refl
+
+refused-items :
+    (hides : ℕ → Bool) (s s′ : State) (x : Item) {d : Call} →
+    StatesAlike hides s s′ → SameCall hides (x .call) d → isRefused (outcomeIn s x) ≡ true → ItemsAlike hides s s′ x (withCall x d)
+refused-items hides s s′ x {d} alike call e =
+    let y = withCall x d in
+    let refused : RefusedAlike (outcomeIn s x) (outcomeIn s′ y) =
+    subst (λ (m : Machine). RefusedAlike (outcomeIn s x) (perform d m (lentTo y (s′ .own)))) (sym (alike .machine))
+    (alike-words hides (s .own) (s′ .own) (λ t. RefusedAlike (outcomeIn s x) (perform d (s .machine) (lentTo y t))) (alike .own)
+    (λ words k.
+    refused-alike (s .machine) (lentTo x (s .own)) (lentAs (x .words) words) (lent-length (x .words) (s .own .words) words (k .lengths)) call))
+    in
+    let same-answer = refused e in
+    let refused′ : isRefused (outcomeIn s′ y) ≡ true = ap (λ (a : Answer). not (eqb (a .refusal) 0)) same-answer ∙ e in
+    record {
+      answer = seen-same hides call (outcomeIn s x .answer) ∙ ap (seen hides d) (sym same-answer);
+      states = rw (refused-item s x e, refused-item s′ y refused′) alike;
+    }
+
+-- ---- a call on the runs' own tables
+
+own-items :
+    (hides : ℕ → Bool) (s s′ : State) (c d : Call) →
+    StatesAlike hides s s′ → SameCall hides c d → isBoot c ≡ false → ItemsAlike hides s s′ (onOwn c) (onOwn d)
+unfolding next
+own-items hides s s′ c d alike call e =
+    let both = own-alike hides (s .machine) (s′ .machine) (s .own) (s′ .own) c d call e (alike .machine) (alike .own) in
+    record { answer = both .answer; states = record { machine = both .machine; own = both .left } }
 
 -- ---- the lists
 
 pub lists-agree :
     (hides : ℕ → Bool) {xs ys : List Item} →
     SameList hides xs ys →
-    (s s′ : State) → s′ .machine ≡ s .machine → Alike hides (s .own) (s′ .own) → seenAnswers hides s xs ≡ seenAnswers hides s′ ys
-unfolding seenAnswers next
-lists-agree hides none s s′ e a = refl
-lists-agree hides (own {c = c} {d = d} {xs = xs} {ys = ys} call rest) s s′ e a =
-    let both = own-alike hides (s .machine) (s′ .machine) (s .own) (s′ .own) c d call e a in
-    let tail : seenAnswers hides (next s (onOwn c)) xs ≡ seenAnswers hides (next s′ (onOwn d)) ys = lists-agree hides rest (next s (onOwn c)) (next s′ (onOwn d)) (both .machine) (both .left) in
-    λ i. both .answer i ∷ tail i
-lists-agree hides (other {c = c} {d = d} {t = u} {xs = xs} {ys = ys} call rest) s s′ e a =
-    let both : SeenSame hides c d (perform c (s .machine) u) (perform d (s′ .machine) u) =
-    subst (λ (x : Machine). SeenSame hides c d (perform c (s .machine) u) (perform d x u)) (sym e) (other-call hides (s .machine) u call)
+    (s s′ : State) → StatesAlike hides s s′ → admitted s xs ≡ true → seenAnswers hides s xs ≡ seenAnswers hides s′ ys
+unfolding seenAnswers admitted
+lists-agree hides none s s′ alike ok = refl
+lists-agree hides (more {c = c} {d = d} {marks = marks} {words = words} {bitmap = bitmap} {xs = xs} {ys = ys} call rest) s s′ alike ok =
+    let x = item c marks words bitmap in
+    let y = item d marks words bitmap in
+    let head = isRefused (outcomeIn s x) || mayPass x in
+    let both =
+    item-cases (λ z. SameCall hides (z .call) d → ItemsAlike hides s s′ z (withCall z d)) s x (and-left head (admitted (next s x) xs) ok)
+    (λ e k. refused-items hides s s′ x alike k e) (λ e k. own-items hides s s′ c d alike k e) call
     in
-    let tail : seenAnswers hides (next s (onOther c u)) xs ≡ seenAnswers hides (next s′ (onOther d u)) ys = lists-agree hides rest (next s (onOther c u)) (next s′ (onOther d u)) (both .machine) a in
+    let tail : seenAnswers hides (next s x) xs ≡ seenAnswers hides (next s′ y) ys =
+    lists-agree hides rest (next s x) (next s′ y) (both .states) (and-right head (admitted (next s x) xs) ok)
+    in
     λ i. both .answer i ∷ tail i

@@ -1,26 +1,26 @@
 -- The movable pages of a run go to the lowest free ordinary frames, in order, and nothing else outside the run changes. Assumes nothing.
 use Prim.Native.Nat.{ℕ, zero, suc, _+_, _-_, _≤_, _<_}
 use native.Mathlib.Omega.{arith}
-use mathlib.Core.Path.{_≡_, refl, sym, ap, ap₂, subst, _∙_}
+use mathlib.Core.Path.{_≡_, refl, sym, ap, subst, _∙_}
 use mathlib.Core.Logic.{_≢_}
-use mathlib.Core.Bool.{Bool, true, false, not, _&&_}
+use mathlib.Core.Bool.{Bool, true, false, _&&_}
 use lib.Dec.{eqb}
 use lib.ListN.{length, set, length-set}
 use lib.Seq.{getD-set-same, getD-set-other}
-use borrow.Author.Tests.{eqb-true, eqb-false, eq-eqb, ne-eqb}
-use Rattle.search.specs.Choice.{if_then_else_}
+use borrow.Author.Tests.{eqb-true, eqb-false}
 use Rattle.search.specs.Search.{lowest, howMany}
-use Rattle.search.proofs.Bools.{by-cases, below-or-not, clash, and-left, and-right, and-both, and-left-false, and-right-false}
-use Rattle.search.proofs.Lowest.{found-passes, found-low, found-some, lowest-le}
-use Rattle.search.proofs.Counts.{many-none, many-pass, many-fail, many-split, many-next, many-zero, many-some, many-cong, one}
-use Rattle.frames.specs.declared.Place.{Place}
+use Rattle.search.proofs.Bools.{by-cases, below-or-not, clash, and-right, and-left-false, and-right-false}
+use Rattle.search.proofs.Lowest.{found-passes, found-low}
+use Rattle.search.proofs.Counts.{many-none, many-pass, many-fail, many-split, many-zero, many-cong}
 use Rattle.frames.specs.Units.{place}
 use Rattle.frames.specs.Marks.{kindOf, hasKind, free, movable}
-use Rattle.frames.specs.Tables.{Tables, tables, markAt, wordAt, setPage}
+use Rattle.frames.specs.Tables.{Tables, markAt, wordAt}
 use Rattle.rules.specs.Record.{Machine, isOrdinary}
-use Rattle.rules.specs.PageCalls.{lowestPlace, isFree, freeOrdinary}
+use Rattle.rules.specs.PageCalls.{isFree, freeOrdinary}
 use Rattle.rules.specs.DeviceCalls.{movePage, moveOut}
-use Rattle.rules.specs.promises.Moves.{moversBefore, freeBelow, MovesTo, Same}
+use Rattle.rules.specs.promises.Grants.{freeBelow}
+use Rattle.rules.specs.promises.Moves.{moversBefore, MovesTo}
+use Rattle.rules.specs.promises.Changes.{Same}
 
 -- the tables have a mark and a word for each frame
 pub record Sized (m : Machine) (t : Tables) : Type 0 where
@@ -69,11 +69,7 @@ module _ (m : Machine) where
     r₀ = lowestTarget t
 
     abbrev t₁ : Tables
-    t₁ = setPage (setPage t (place r₀) (markAt t (place p)) (wordAt t (place p))) (place p) 0 0
-
-    moves : movePage m t (place p) ≡ t₁
-    unfolding movePage
-    moves = rw mover
+    t₁ = movePage m t (place p)
 
     movers-here : howMany (isMover t) p (suc d) ≡ suc (howMany (isMover t) (suc p) d)
     movers-here = many-pass (isMover t) p d mover
@@ -98,29 +94,37 @@ module _ (m : Machine) where
     p-apart : p ≢ r₀
     p-apart = r₀-apart p (omega arith) (omega arith)
 
-    p-inside : p < m .frames
-    p-inside = omega (arith, ready .inside)
-
     sized₁ : Sized m t₁
-    sized₁ = record { marks = simp length-set (ready .sized .marks); words = simp length-set (ready .sized .words) }
+    unfolding movePage
+    sized₁ = rw mover (record { marks = simp length-set (ready .sized .marks); words = simp length-set (ready .sized .words) })
 
-    mark-other : (q : ℕ) → q ≢ p → q ≢ r₀ → markAt t₁ (place q) ≡ markAt t (place q)
-    mark-other q a b =
-        getD-set-other (set (t .marks) r₀ (markAt t (place p))) p q 0 0 a ∙ getD-set-other (t .marks) r₀ q (markAt t (place p)) 0 b
-
-    word-other : (q : ℕ) → q ≢ p → q ≢ r₀ → wordAt t₁ (place q) ≡ wordAt t (place q)
-    word-other q a b =
-        getD-set-other (set (t .words) r₀ (wordAt t (place p))) p q 0 0 a ∙ getD-set-other (t .words) r₀ q (wordAt t (place p)) 0 b
+    bitmap₁ : t₁ .bitmap ≡ t .bitmap
+    unfolding movePage
+    bitmap₁ = rw mover
 
     mark-there : markAt t₁ (place r₀) ≡ markAt t (place p)
+    unfolding movePage
     mark-there =
-        getD-set-other (set (t .marks) r₀ (markAt t (place p))) p r₀ 0 0 (λ e. p-apart (sym e)) ∙
-        getD-set-same (t .marks) r₀ (markAt t (place p)) 0 (omega (arith, some-target, ready .sized .marks))
+        rw mover
+        (getD-set-other (set (t .marks) r₀ (markAt t (place p))) p r₀ 0 0 (λ e. p-apart (sym e)) ∙
+        getD-set-same (t .marks) r₀ (markAt t (place p)) 0 (omega (arith, some-target, ready .sized .marks)))
 
     word-there : wordAt t₁ (place r₀) ≡ wordAt t (place p)
+    unfolding movePage
     word-there =
-        getD-set-other (set (t .words) r₀ (wordAt t (place p))) p r₀ 0 0 (λ e. p-apart (sym e)) ∙
-        getD-set-same (t .words) r₀ (wordAt t (place p)) 0 (omega (arith, some-target, ready .sized .words))
+        rw mover
+        (getD-set-other (set (t .words) r₀ (wordAt t (place p))) p r₀ 0 0 (λ e. p-apart (sym e)) ∙
+        getD-set-same (t .words) r₀ (wordAt t (place p)) 0 (omega (arith, some-target, ready .sized .words)))
+
+    mark-other : (q : ℕ) → q ≢ p → q ≢ r₀ → markAt t₁ (place q) ≡ markAt t (place q)
+    unfolding movePage
+    mark-other q a b =
+        rw mover (getD-set-other (set (t .marks) r₀ (markAt t (place p))) p q 0 0 a ∙ getD-set-other (t .marks) r₀ q (markAt t (place p)) 0 b)
+
+    word-other : (q : ℕ) → q ≢ p → q ≢ r₀ → wordAt t₁ (place q) ≡ wordAt t (place q)
+    unfolding movePage
+    word-other q a b =
+        rw mover (getD-set-other (set (t .words) r₀ (wordAt t (place p))) p q 0 0 a ∙ getD-set-other (t .words) r₀ q (wordAt t (place p)) 0 b)
 
     -- the targets are those before, less the one taken
     taken : isTarget t₁ r₀ ≡ false
@@ -223,7 +227,7 @@ module _ (m : Machine) where
       moved₁ =
           record {
             sized = ih .sized;
-            bitmap = ih .bitmap;
+            bitmap = ih .bitmap ∙ bitmap₁;
             arrives = λ q a b e. below-or-not p q (λ h. later-arrives q h b e) (λ h. subst (λ (k : ℕ). (r : ℕ) × MovesTo m t t′ p k r) (omega arith) (r₀, first-arrives));
             stays = stays₁;
           }
@@ -284,5 +288,5 @@ module _ (m : Machine) where
       }
   moved-all t p (suc d) ready =
       by-cases (isMover t p)
-      (λ e. rw (moves t p d ready e) (moved₁ t p d ready e _ (moved-all (t₁ t p d ready e) (suc p) d (ready₁ t p d ready e))))
+      (λ e. moved₁ t p d ready e _ (moved-all (movePage m t (place p)) (suc p) d (ready₁ t p d ready e)))
       (λ e. rw (stands t p e) (moved₀ t p d e _ (moved-all t (suc p) d (ready₀ t p d ready e))))

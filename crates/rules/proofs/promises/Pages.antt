@@ -1,158 +1,138 @@
 -- The page calls keep their promises. Assumes nothing.
-use Prim.Native.Nat.{ℕ, _+_, _≤_, _<_}
+use Prim.Native.Nat.{ℕ, _+_, _<_}
 use native.Mathlib.Omega.{arith}
-use mathlib.Core.Path.{_≡_, refl, sym, ap, subst, _∙_}
-use mathlib.Core.Logic.{_⊎_, inl, inr, _≢_}
-use mathlib.Core.Bool.{Bool, true, false, not, _&&_, _||_}
+use mathlib.Core.Path.{_≡_, refl, ap, _∙_}
+use mathlib.Core.Logic.{inl, inr, _≢_}
+use mathlib.Core.Bool.{true, false, not}
 use mathlib.Core.List.{List}
 use lib.Dec.{eqb}
 use lib.ListN.{length, set, length-set}
 use lib.Seq.{set-getD, getD-set-same}
-use borrow.Author.Tests.{ne-eqb, lt-ltb, ltb-true, ltb-false, eqb-true}
-use Rattle.search.specs.Search.{lowest}
-use Rattle.search.proofs.Bools.{by-cases, below-or-not, clash, and-left, and-right, and-both, or-left, or-right, not-flips}
-use Rattle.search.proofs.Lowest.{found-passes, found-low}
+use borrow.Author.Tests.{ne-eqb, ltb-true, eqb-true, eqb-false}
+use Rattle.search.proofs.Bools.{by-cases, clash, not-flips}
 use Rattle.answer.specs.Answers.{done}
 use Rattle.frames.specs.declared.Place.{Place}
 use Rattle.frames.specs.Units.{place}
-use Rattle.frames.specs.Marks.{kindOf, hasKind, isPageOf, movable, pinned}
+use Rattle.frames.specs.Marks.{kindOf, markOf, hasKind, movable, pinned, fixed}
 use Rattle.frames.specs.Tables.{Tables, tables, markAt, wordAt, setPage}
-use Rattle.rules.specs.Record.{Machine, frameAt, isOrdinary}
-use Rattle.rules.specs.Shape.{lengthsRight, shapeRight}
+use Rattle.rules.specs.Record.{Machine, frameAt}
+use Rattle.rules.specs.Shape.{lengthsRight, shapeRight, shapeWrong}
 use Rattle.rules.specs.Outcomes.{Outcome, outcome, Passed}
-use Rattle.rules.specs.PageCalls.{pageAt, isLive, pageHas, putChecks, dropChecks, changeChecks, storeChecks, readChecks, isPlace, lowestPlace, isFree, freeOrdinary, freeInArea, putAt, putPage, dropPage, changeKind, storePage, readPage}
-use Rattle.rules.proofs.Checks.{checked-passed}
+use Rattle.rules.specs.PageCalls.{pageAt, isLive, pageHas, putChecks, dropChecks, changeChecks, storeChecks, readChecks, isPlace, lowestPlace, freeOrdinary, putAt, putPage, dropPage, changeKind, storePage, readPage}
+use Rattle.rules.proofs.Checks.{checked-passed, accepted-does, accepted-passed}
+use Rattle.rules.proofs.Says.{says-no}
 use Rattle.rules.proofs.Shapes.{shape-known}
-use Rattle.rules.specs.promises.Pages.{PageRefusals, FreeOrdinary, FreeInArea, Lowest, PutTakesLowest, Stands, FindsLowest, StoreThenRead, PinnedIsKept, PinnedPagesStay}
-use Rattle.rules.proofs.promises.Refusals.{refused-by-first}
-
-pub page-refusals : PageRefusals
-unfolding putPage dropPage changeKind storePage readPage
-page-refusals =
-    record {
-      put = λ kind m name t. refused-by-first _ m t _ refl refl;
-      drop = λ m name t. refused-by-first _ m t _ refl refl;
-      change = λ from to m name t. refused-by-first _ m t _ refl refl;
-      store = λ m name word t. refused-by-first _ m t _ refl refl;
-      read = λ m name t. refused-by-first _ m t _ refl refl;
-    }
+use Rattle.rules.specs.promises.Pages.{Lowest, PutPlace, PutDoes, AcceptedPutMovable, AcceptedPutFixed, Stands, LiveIfStands, PageDoes, AcceptedDrop, AcceptedPin, AcceptedUnpin, AcceptedStore, AcceptedRead, StoreThenRead, PinnedPagesStay}
+use Rattle.rules.proofs.promises.Changes.{set-only}
+use Rattle.rules.proofs.promises.PlaceTests.{some-ordinary, lowest-ordinary, lowest-in-area, lowest-standing, live}
 
 -- ---- put
 module _ (m : Machine) (t : Tables) where
-  abbrev ordinaryTest : ℕ → Bool
-  ordinaryTest i = freeOrdinary m t (place i)
-
-  abbrev areaTest : ℕ → Bool
-  areaTest i = freeInArea m t (place i)
-
-  ordinary-is : (i : ℕ) → i < m .frames → ordinaryTest i ≡ true → FreeOrdinary m t i
-  unfolding freeOrdinary
-  ordinary-is i h e = record { in-memory = h; is-free = and-left (isFree t (place i)) _ e; is-ordinary = and-right (isFree t (place i)) _ e }
-
-  is-ordinary-test : (i : ℕ) → FreeOrdinary m t i → ordinaryTest i ≡ true
-  unfolding freeOrdinary
-  is-ordinary-test i f = and-both _ _ (f .is-free) (f .is-ordinary)
-
-  area-is : (i : ℕ) → i < m .frames → areaTest i ≡ true → FreeInArea m t i
-  unfolding freeInArea
-  area-is i h e =
-      record { in-memory = h; is-free = and-left (isFree t (place i)) _ e; in-area = not-flips (isOrdinary m (place i)) (and-right (isFree t (place i)) _ e) }
-
-  is-area-test : (i : ℕ) → FreeInArea m t i → areaTest i ≡ true
-  unfolding freeInArea
-  is-area-test i f = and-both (isFree t (place i)) (not (isOrdinary m (place i))) (f .is-free) (ap not (f .in-area))
-
-  lowest-ordinary : lowest ordinaryTest (m .frames) < m .frames → Lowest (FreeOrdinary m t) (lowest ordinaryTest (m .frames))
-  lowest-ordinary h = (
-    ordinary-is _ h (found-passes ordinaryTest (m .frames) h),
-    λ q l f. clash (ordinaryTest q) (is-ordinary-test q f) (found-low ordinaryTest (m .frames) q l),
-  )
-
-  lowest-in-area : lowest areaTest (m .frames) < m .frames → Lowest (FreeInArea m t) (lowest areaTest (m .frames))
-  lowest-in-area h =
-      (area-is _ h (found-passes areaTest (m .frames) h), λ q l f. clash (areaTest q) (is-area-test q f) (found-low areaTest (m .frames) q l))
-
-  none-ordinary : m .frames ≤ lowest ordinaryTest (m .frames) → (q : ℕ) → FreeOrdinary m t q → ⊥
-  none-ordinary h q f =
-      clash (ordinaryTest q) (is-ordinary-test q f) (found-low ordinaryTest (m .frames) q (omega (arith, f .in-memory)))
-
   -- where put's place is one of the machine's, it is one of the two
-  abbrev Taken : ℕ → ℕ → Type 0
-  Taken kind p = Lowest (FreeOrdinary m t) p ⊎ ((kind ≡ movable) × ((q : ℕ) → FreeOrdinary m t q → ⊥) × Lowest (FreeInArea m t) p)
+  abbrev ordinaryPlace : Place
+  ordinaryPlace = lowestPlace m (freeOrdinary m t)
 
-  put-place : (kind : ℕ) → isPlace m (putAt kind m t) ≡ true → Taken kind (putAt kind m t .0)
+  put-place : (kind : ℕ) → isPlace m (putAt kind m t) ≡ true → PutPlace kind m t (putAt kind m t .0)
   unfolding putAt
   put-place kind =
-      by-cases (isPlace m (lowestPlace m (freeOrdinary m t)) || not (eqb kind movable))
-      (λ e. rw e (λ h. inl (lowest-ordinary (ltb-true _ _ h))))
+      by-cases (isPlace m ordinaryPlace) (λ e. rw e (λ h. inl (lowest-ordinary m t (ltb-true (ordinaryPlace .0) (m .frames) e))))
       (λ e.
-      rw e
-      (λ h.
-      inr (
-        eqb-true kind movable (not-flips (eqb kind movable) (or-right (isPlace m (lowestPlace m (freeOrdinary m t))) (not (eqb kind movable)) e)),
-        none-ordinary (ltb-false _ _ (or-left (isPlace m (lowestPlace m (freeOrdinary m t))) (not (eqb kind movable)) e)),
-        lowest-in-area (ltb-true _ _ h),
-      )))
-
--- a put that has passed its checks answers the frame of its place
-put-first : (kind : ℕ) (m : Machine) (name : ℕ) (t : Tables) → Passed (putChecks kind m name t) → putPage kind m name t .answer .first ≡ m .base .0 + putAt kind m t .0
-unfolding putPage
-put-first kind m name t p = ap (λ (o : Outcome). o .answer .first) (checked-passed m t _ _ p)
+      by-cases (eqb kind movable)
+      (λ k.
+      simp (e, k)
+      (λ h. inr (eqb-true kind movable k, λ q f. says-no (some-ordinary m t) e (q, f), lowest-in-area m t (ltb-true _ _ h))))
+      (λ k. simp (e, k) (λ h. clash false h refl)))
 
 put-has-place : (kind : ℕ) (m : Machine) (name : ℕ) (t : Tables) → Passed (putChecks kind m name t) → isPlace m (putAt kind m t) ≡ true
 put-has-place kind m name t p = not-flips (isPlace m (putAt kind m t)) (p .1 .1 .1 .0)
 
-pub put-takes-lowest : PutTakesLowest
-put-takes-lowest kind m name t accepted p first =
-    let passed = page-refusals .put kind m name t .passes accepted in
-    subst (Taken m t kind) (omega (arith, put-first kind m name t passed)) (put-place m t kind (put-has-place kind m name t passed))
+accepted-put :
+    (kind : ℕ) (m : Machine) (name : ℕ) (t : Tables) →
+    putPage kind m name t .answer .refusal ≡ 0 → (p : ℕ) × PutDoes kind m name t (putPage kind m name t) p
+unfolding putPage
+accepted-put kind m name t accepted =
+    accepted-does (λ o. (p : ℕ) × PutDoes kind m name t o p) m t (putChecks kind m name t) _ refl accepted
+    (λ passed.
+    let p = putAt kind m t .0 in
+    let in-memory = put-has-place kind m name t passed in (
+      p,
+      record {
+        lowest = put-place m t kind in-memory;
+        answer = refl;
+        page = set-only m t (shape-known m t (not-flips (shapeRight m t) (passed .0))) p (markOf name kind) 0 (ltb-true p (m .frames) in-memory);
+        machine = refl;
+      },
+    ))
 
--- ---- the lowest frame of a name
-module _ (m : Machine) (t : Tables) (name : ℕ) where
-  abbrev nameTest : ℕ → Bool
-  nameTest i = isPageOf name (markAt t (place i))
+pub accepted-put-movable : AcceptedPutMovable
+accepted-put-movable = accepted-put movable
 
-  page-is : pageAt m t name .0 ≡ lowest nameTest (m .frames)
-  unfolding pageAt
-  page-is = refl
+pub accepted-put-fixed : AcceptedPutFixed
+accepted-put-fixed = accepted-put fixed
 
-  page-stands : isLive m t name ≡ true → Lowest (Stands m t name) (pageAt m t name .0)
-  page-stands e =
-      let h : lowest nameTest (m .frames) < m .frames = omega (arith, page-is, ltb-true (pageAt m t name .0) (m .frames) e) in
-      subst (Lowest (Stands m t name)) (sym page-is) (
-        record { in-memory = h; is-page = found-passes nameTest (m .frames) h },
-        λ q l s. clash (nameTest q) (s .is-page) (found-low nameTest (m .frames) q l),
-      )
+-- ---- the calls on a live page
+pub live-if-stands : LiveIfStands
+live-if-stands m name t = (live m t name .fact, live m t name .test)
 
-  page-live : (p : ℕ) → Stands m t name p → isLive m t name ≡ true
-  page-live p s =
-      below-or-not (lowest nameTest (m .frames)) (m .frames) (λ h. lt-ltb (pageAt m t name .0) (m .frames) (omega (arith, page-is)))
-      (λ h. absurd (clash (nameTest p) (s .is-page) (found-low nameTest (m .frames) p (omega (arith, s .in-memory)))))
+module _ (m : Machine) (name : ℕ) (t : Tables) (shaped : shapeWrong m t ≡ false) (standing : not (isLive m t name) ≡ false) where
+  abbrev at : ℕ
+  at = pageAt m t name .0
 
-  read-done : Passed (readChecks m name t) → readPage m name t ≡ outcome m (done (frameAt m (pageAt m t name) .0) (wordAt t (pageAt m t name))) t
-  unfolding readPage
-  read-done p = checked-passed m t _ _ p
+  in-memory : at < m .frames
+  in-memory = ltb-true at (m .frames) (not-flips (isLive m t name) standing)
 
-  read-live : Passed (readChecks m name t) → isLive m t name ≡ true
-  read-live p = not-flips (isLive m t name) (p .1 .1 .0)
+  page-does : (mark word : ℕ) → PageDoes m name t (outcome m (done 0 0) (setPage t (pageAt m t name) mark word)) at mark word
+  page-does mark word =
+      record {
+        lowest = lowest-standing m t name in-memory;
+        answer = refl;
+        page = set-only m t (shape-known m t (not-flips (shapeRight m t) shaped)) at mark word in-memory;
+        machine = refl;
+      }
 
-  read-lowest :
-      Passed (readChecks m name t) →
-      (p : ℕ) → readPage m name t .answer .first ≡ m .base .0 + p → Lowest (Stands m t name) p × (readPage m name t .answer .second ≡ wordAt t (place p))
-  read-lowest passed p first =
-      let done = read-done passed in
-      let at : pageAt m t name .0 ≡ p = omega (arith, ap (λ (o : Outcome). o .answer .first) done) in (
-        subst (Lowest (Stands m t name)) at (page-stands (read-live passed)),
-        ap (λ (o : Outcome). o .answer .second) done ∙ ap (λ (k : ℕ). wordAt t (place k)) at,
-      )
+-- the kind that a change of kind asks for
+has-kind : (kind : ℕ) (m : Machine) (name : ℕ) (t : Tables) → Passed (changeChecks kind m name t) → kindOf (markAt t (pageAt m t name)) ≡ kind
+has-kind kind m name t passed =
+    eqb-true (kindOf (markAt t (pageAt m t name))) kind (not-flips (pageHas kind m t name) (passed .1 .1 .1 .0))
 
-pub finds-lowest : FindsLowest
-finds-lowest =
-    record {
-      read = λ m name t accepted. read-lowest m t name (page-refusals .read m name t .passes accepted);
-      live = λ m name t. page-live m t name;
-      stands = λ m name t e. page-stands m t name e .0;
-    }
+pub accepted-drop : AcceptedDrop
+unfolding dropPage
+accepted-drop m name t accepted =
+    accepted-does (λ o. (p : ℕ) × (kindOf (markAt t (place p)) ≢ pinned) × PageDoes m name t o p 0 0) m t (dropChecks m name t) _ refl accepted
+    (λ passed. (pageAt m t name .0, eqb-false _ pinned (passed .1 .1 .1 .0), page-does m name t (passed .0) (passed .1 .1 .0) 0 0))
+
+pub accepted-pin : AcceptedPin
+unfolding changeKind
+accepted-pin m name t accepted =
+    accepted-does (λ o. (p : ℕ) × (kindOf (markAt t (place p)) ≡ movable) × PageDoes m name t o p (markOf name pinned) (wordAt t (place p))) m t
+    (changeChecks movable m name t) _ refl accepted
+    (λ passed.
+    let p = pageAt m t name in
+    (p .0, has-kind movable m name t passed, page-does m name t (passed .0) (passed .1 .1 .0) (markOf name pinned) (wordAt t p)))
+
+pub accepted-unpin : AcceptedUnpin
+unfolding changeKind
+accepted-unpin m name t accepted =
+    accepted-does (λ o. (p : ℕ) × (kindOf (markAt t (place p)) ≡ pinned) × PageDoes m name t o p (markOf name movable) (wordAt t (place p))) m t
+    (changeChecks pinned m name t) _ refl accepted
+    (λ passed.
+    let p = pageAt m t name in
+    (p .0, has-kind pinned m name t passed, page-does m name t (passed .0) (passed .1 .1 .0) (markOf name movable) (wordAt t p)))
+
+pub accepted-store : AcceptedStore
+unfolding storePage
+accepted-store m name word t accepted =
+    accepted-does (λ o. (p : ℕ) × (kindOf (markAt t (place p)) ≢ pinned) × PageDoes m name t o p (markAt t (place p)) word) m t
+    (storeChecks m name t) _ refl accepted
+    (λ passed.
+    (pageAt m t name .0, eqb-false _ pinned (passed .1 .1 .1 .0), page-does m name t (passed .0) (passed .1 .1 .0) (markAt t (pageAt m t name)) word))
+
+pub accepted-read : AcceptedRead
+unfolding readPage
+accepted-read m name t accepted =
+    accepted-does (λ o. (p : ℕ) × Lowest (Stands m t name) p × (o ≡ outcome m (done (m .base .0 + p) (wordAt t (place p))) t)) m t
+    (readChecks m name t) _ refl accepted
+    (λ passed. (pageAt m t name .0, lowest-standing m t name (in-memory m name t (passed .0) (passed .1 .1 .0)), refl))
 
 -- ---- store, then read
 module _ (m : Machine) (name word : ℕ) (t : Tables) where
@@ -196,9 +176,13 @@ module _ (m : Machine) (name word : ℕ) (t : Tables) where
       let r = read-outcome (read-passes p) in
       (ap (λ (o : Outcome). o .answer .refusal) r, ap (λ (o : Outcome). o .answer .second) r ∙ stored-word p)
 
+store-passed : (m : Machine) (name word : ℕ) (t : Tables) → storePage m name word t .answer .refusal ≡ 0 → Passed (storeChecks m name t)
+unfolding storePage
+store-passed m name word t = accepted-passed m t (storeChecks m name t) _ refl
+
 pub store-then-read : StoreThenRead
 store-then-read m name word t accepted =
-    let passed = page-refusals .store m name word t .passes accepted in
+    let passed = store-passed m name word t accepted in
     rw (store-outcome m name word t passed) (read-stored m name word t passed)
 
 -- ---- pinned pages
@@ -215,9 +199,10 @@ module _ (m : Machine) (t : Tables) (name : ℕ) (is-pinned : pageHas pinned m t
       clash (pageHas movable m t name) (not-flips (pageHas movable m t name) (p .1 .1 .1 .0)) (one-kind (markAt t (pageAt m t name)) is-pinned)
 
 pub pinned-pages-stay : PinnedPagesStay
+unfolding dropPage changeKind
 pinned-pages-stay m t name p =
     record {
-      drop = λ done. no-drop m t name p (page-refusals .drop m name t .passes done);
-      store = λ word done. no-drop m t name p (page-refusals .store m name word t .passes done);
-      pin = λ done. no-pin m t name p (page-refusals .change movable pinned m name t .passes done);
+      drop = λ done. no-drop m t name p (accepted-passed m t (dropChecks m name t) _ refl done);
+      store = λ word done. no-drop m t name p (store-passed m name word t done);
+      pin = λ done. no-pin m t name p (accepted-passed m t (changeChecks movable m name t) _ refl done);
     }

@@ -2,27 +2,24 @@
 --     first-word-le    its bitmap words come before the areas' end
 --     in-run-or-not    a place is in a run or not
 --     marked-*         the marks and words after a run is marked
-use Prim.Native.Nat.{ℕ, zero, suc, _+_, _-_, _*_, _/_, _^_, _≤_, _<_}
+use Prim.Native.Nat.{ℕ, zero, suc, _+_, _-_, _*_, _≤_, _<_}
 use native.Mathlib.Omega.{arith}
 use native.Mathlib.Nat.{div-mul-le-self, mul-le-mul-right, le-refl}
-use mathlib.Core.Path.{_≡_, refl, sym, ap, subst, _∙_}
+use mathlib.Core.Path.{_≡_, ap, subst, _∙_}
 use mathlib.Core.Logic.{_≢_}
-use mathlib.Core.Bool.{Bool, true, false, not, _&&_}
-use lib.Dec.{leb, eqb}
+use mathlib.Core.Bool.{false, not}
 use lib.ListN.{length, set, length-set}
 use lib.Seq.{getD-set-same, getD-set-other}
 use lib.Pow.{pow-pos}
-use borrow.Author.Tests.{leb-true}
-use Rattle.search.proofs.Bools.{below-or-not, and-left, and-right}
+use Rattle.search.proofs.Bools.{below-or-not}
 use Rattle.frames.specs.declared.Area.{Area}
 use Rattle.frames.specs.Units.{frame, place, bit}
 use Rattle.frames.specs.Marks.{markOf, head, later}
-use Rattle.frames.specs.Areas.{isMultiple, endOf, perBit, bitCount, bitsFor, wordCount, firstWord, areaIn, frameOfBit, inAreas}
+use Rattle.frames.specs.Areas.{perBit, bitCount, bitsFor, wordCount, firstWord}
 use Rattle.frames.specs.Tables.{Tables, markAt, wordAt}
 use Rattle.frames.proofs.AreaFacts.{first-word-suc, holds-yes, in-area}
-use Rattle.frames.proofs.FillFacts.{length-fill, getD-fill-below, getD-fill-above, getD-fill-in}
-use Rattle.rules.specs.Record.{Machine, areaAt, endFrame, isOrdinary}
-use Rattle.rules.specs.Shape.{areaRight, areaFits, wordsNeeded}
+use Rattle.frames.proofs.FillFacts.{getD-fill-below, getD-fill-above, getD-fill-in}
+use Rattle.rules.specs.Record.{Machine, areaAt, isOrdinary}
 use Rattle.rules.specs.DeviceCalls.{bitmapOf, placeOfBit, markRun}
 use Rattle.rules.proofs.Divisions.{le-ceiling}
 use Rattle.rules.proofs.Shapes.{Shape}

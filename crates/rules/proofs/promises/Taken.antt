@@ -1,51 +1,45 @@
 -- What an accepted grant does, and that freed room is used again. Assumes nothing.
-use Prim.Native.Nat.{ℕ, zero, suc, _+_, _-_, _*_, _/_, _%_, _^_, _≤_, _<_}
+use Prim.Native.Nat.{ℕ, suc, _+_, _-_, _*_, _/_, _%_, _^_, _≤_, _<_}
 use native.Mathlib.Omega.{arith}
-use native.Mathlib.Nat.{add-sub-cancel-left, mul-div-cancel, mul-mod-left}
+use native.Mathlib.Nat.{add-sub-cancel-left, mul-mod-left, eq-of-mul-eq-mul-right}
 use mathlib.Core.Path.{_≡_, refl, sym, ap, subst, _∙_}
-use mathlib.Core.Logic.{_≢_, _⊎_, inl}
-use mathlib.Core.Bool.{Bool, true, false, not, _&&_, _||_}
-use mathlib.Core.List.{List}
-use lib.Dec.{leb, ltb, eqb}
+use mathlib.Core.Logic.{_⊎_, inl}
+use mathlib.Core.Bool.{true, false, not, _||_}
+use lib.Dec.{ltb, eqb}
 use lib.ListN.{length, length-set}
 use lib.Pow.{pow-pos}
-use borrow.Author.Tests.{leb-false, ltb-false, ltb-true, eqb-false, le-leb, lt-leb, le-ltb, lt-ltb, eq-eqb, ne-eqb}
-use Rattle.search.specs.Search.{lowest, every, howMany}
-use Rattle.search.proofs.Bools.{by-cases, below-or-not, or-left, or-right, or-neither, not-flips, and-right, clash}
+use borrow.Author.Tests.{leb-false, ltb-false, eqb-false, lt-leb, le-ltb, eq-eqb, ne-eqb}
+use Rattle.search.proofs.Bools.{below-or-not, or-left, or-right, or-neither, not-flips, and-right, clash}
 use Rattle.search.proofs.Ranges.{all-every}
-use Rattle.search.proofs.Lowest.{found-passes}
 use Rattle.answer.specs.Answers.{done}
-use Rattle.bitmap.specs.Bits.{isClear, setIn, setBits, clearBits}
+use Rattle.bitmap.specs.Bits.{setIn}
 use Rattle.bitmap.proofs.Word.{setting}
-use Rattle.bitmap.proofs.Changes.{word-kept, set-not-clear, clear-outside, clear-set}
+use Rattle.bitmap.proofs.Changes.{word-kept, set-not-clear, clear-outside}
 use Rattle.bitmap.proofs.Runs.{change-length}
 use Rattle.frames.specs.declared.Area.{Area}
-use Rattle.frames.specs.declared.Bit.{Bit}
 use Rattle.frames.specs.declared.Frame.{Frame}
 use Rattle.frames.specs.Units.{frame, place, bit}
-use Rattle.frames.specs.Marks.{kindOf, fieldOf, markOf, hasKind, canLeave, free, movable, head, later}
-use Rattle.frames.specs.Areas.{isMultiple, endOf, perBit, bitCount, bitsFor, wordCount, frameOfBit, bitOfFrame}
-use Rattle.frames.specs.Tables.{Tables, tables, markAt, wordAt, fillPages, withBitmap}
-use Rattle.frames.proofs.FillFacts.{length-fill, getD-fill-below, getD-fill-above, getD-fill-in}
-use Rattle.rules.specs.Record.{Machine, areaAt, placeOf, isOrdinary}
+use Rattle.frames.specs.Marks.{kindOf, fieldOf, markOf, hasKind, free, movable, head, later}
+use Rattle.frames.specs.Areas.{endOf, perBit, bitCount, bitsFor, frameOfBit}
+use Rattle.frames.specs.Tables.{Tables, markAt}
+use Rattle.frames.proofs.FillFacts.{length-fill}
+use Rattle.rules.specs.Record.{Machine, areaAt, isOrdinary}
 use Rattle.rules.specs.Limits.{mostAlignment}
-use Rattle.rules.specs.Shape.{shapeRight, lengthsRight}
+use Rattle.rules.specs.Shape.{shapeRight}
 use Rattle.rules.specs.Outcomes.{Outcome, outcome, Passed}
 use Rattle.rules.specs.PageCalls.{isFree, freeOrdinary}
-use Rattle.rules.specs.DeviceCalls.{noArea, bitmapOf, placeOfBit, chosen, movers, targets, moveOut, markRun, takeRun, grantChecks, grant, outsideArea, offBit, laterFrames, freeRun, releaseChecks, release}
-use Rattle.rules.proofs.Checks.{checked-passed}
+use Rattle.rules.specs.DeviceCalls.{noArea, bitmapOf, placeOfBit, chosen, movers, targets, moveOut, takeRun, grantChecks, grant, outsideArea, offBit, laterFrames, releaseChecks, release}
+use Rattle.rules.proofs.Checks.{checked-passed, accepted-passed}
+use Rattle.rules.proofs.ShapeFacts.{shape-lengths}
 use Rattle.rules.proofs.Shapes.{Shape, shape-known}
-use Rattle.rules.specs.promises.Grants.{Grantable}
-use Rattle.rules.specs.promises.Moves.{Same, MovesTo, freeBelow, GrantDoes, AcceptedGrant, FreedRoom, FreedRoomIsUsed}
-use Rattle.rules.proofs.promises.Refusals.{refused-by-first}
-use Rattle.rules.proofs.promises.Grants.{grantable-known}
-use Rattle.rules.proofs.promises.Moves.{Sized, Ready, Moved, moved-all}
+use Rattle.rules.specs.promises.Grants.{Grantable, movableIn, freeBelow}
+use Rattle.rules.specs.promises.Changes.{Same, SameLengths, OnlyBits}
+use Rattle.rules.specs.promises.Moves.{MovesTo, GrantDoes, AcceptedGrant}
+use Rattle.rules.specs.promises.Releases.{ReleaseDoes, FreedRoom, FreedRoomIsUsed}
+use Rattle.rules.proofs.promises.Grants.{first-known}
+use Rattle.rules.proofs.promises.Releases.{Leaves, stays-clear, stays-grantable, accepted-release}
+use Rattle.rules.proofs.promises.Moves.{Ready, Moved, moved-all}
 use Rattle.rules.proofs.promises.Runs.{in-run-or-not, frames-inside, words-inside, count-le, at-is, run-inside, run-in-area, marked-first, marked-rest, marked-word, marked-other}
-
--- the shape goes by the tables' lengths alone
-same-shape : (m : Machine) (t u : Tables) → length (u .marks) ≡ length (t .marks) → length (u .words) ≡ length (t .words) → length (u .bitmap) ≡ length (t .bitmap) → shapeRight m u ≡ shapeRight m t
-unfolding shapeRight lengthsRight
-same-shape m t u a b c = rw (a, b, c)
 
 head-kind : (count : ℕ) → hasKind head (markOf count head) ≡ true
 head-kind count = eq-eqb (kindOf (markOf count head)) head (omega arith)
@@ -55,7 +49,7 @@ head-field count = omega arith
 
 grant-passes : (m : Machine) (i count order : ℕ) (t : Tables) → grant m i count order t .answer .refusal ≡ 0 → Passed (grantChecks m i count order t)
 unfolding grant
-grant-passes m i count order t e = refused-by-first (grantChecks m i count order t) m t _ refl refl .passes e
+grant-passes m i count order t e = accepted-passed m t (grantChecks m i count order t) _ refl e
 
 module _ (m : Machine) (i count order : ℕ) (t : Tables) (passed : Passed (grantChecks m i count order t)) where
   abbrev j : ℕ
@@ -92,8 +86,7 @@ module _ (m : Machine) (i count order : ℕ) (t : Tables) (passed : Passed (gran
   room = ltb-false (targets m t) (movers t (place p) count) (passed .1 .1 .1 .0)
 
   grantable : Grantable m t i count order j
-  unfolding chosen
-  grantable = grantable-known m t i count order j (found-passes _ (bitCount area) found)
+  grantable = first-known m t i count order found .grantable
 
   inside : j + bitsFor area count ≤ bitCount area
   inside = grantable .candidate .inside
@@ -101,10 +94,6 @@ module _ (m : Machine) (i count order : ℕ) (t : Tables) (passed : Passed (gran
   -- ---- what the grant leaves
   abbrev moved-out : Tables
   moved-out = moveOut m t (place p) count
-
-  grant-is : grant m i count order t ≡ outcome m (done (frameOfBit area (bit j) .0) (movers t (place p) count)) (takeRun m t i count (bit j))
-  unfolding grant
-  grant-is = checked-passed m t _ _ passed
 
   ready : Ready m t p count
   unfolding movers targets
@@ -126,14 +115,10 @@ module _ (m : Machine) (i count order : ℕ) (t : Tables) (passed : Passed (gran
   words-room = omega (arith, ready .inside, out .sized .words)
 
   abbrev left : Tables
-  left = withBitmap (markRun moved-out (place p) count) (setBits (t .bitmap) (bitmapOf m i) j (bitsFor area count))
+  left = takeRun m t i count (bit j)
 
-  left-is : takeRun m t i count (bit j) ≡ left
-  unfolding takeRun
-  left-is = refl
-
-  same-after : (q : ℕ) → (p ≤ q → q < p + count → ⊥) → (freeOrdinary m t (place q) ≡ true → movers t (place p) count ≤ freeBelow m t q) → Same t left q
-  unfolding movers
+  same-after : (q : ℕ) → (p ≤ q → q < p + count → ⊥) → (freeOrdinary m t (place q) ≡ true → movableIn t p count ≤ freeBelow m t q) → Same t left q
+  unfolding movers takeRun
   same-after q outside bound =
       let a = marked-other moved-out p count some marks-room words-room q outside in
       let b = out .stays q outside bound in
@@ -142,12 +127,10 @@ module _ (m : Machine) (i count order : ℕ) (t : Tables) (passed : Passed (gran
   not-ordinary : (q : ℕ) → p ≤ q → q < p + bitsFor area count * perBit area → freeOrdinary m t (place q) ≡ true → ⊥
   unfolding freeOrdinary
   not-ordinary q a b e =
-      absurd-of (isOrdinary m (place q)) (and-right (isFree t (place q)) (isOrdinary m (place q)) e) (run-in-area m t shape i count j known inside q a b)
-    where
-      absurd-of : (b : Bool) → b ≡ true → b ≡ false → ⊥
-      absurd-of b e f = clash b e f
+      clash (isOrdinary m (place q)) (and-right (isFree t (place q)) (isOrdinary m (place q)) e) (run-in-area m t shape i count j known inside q a b)
 
   moves-after : (q : ℕ) → p ≤ q → q < p + count → hasKind movable (markAt t (place q)) ≡ true → (r : ℕ) × MovesTo m t left p q r
+  unfolding takeRun
   moves-after q a b e =
       let w = out .arrives q a b e in
       let f = w .1 in
@@ -161,54 +144,55 @@ module _ (m : Machine) (i count order : ℕ) (t : Tables) (passed : Passed (gran
   abbrev answered : ℕ
   answered = frameOfBit area (bit j) .0
 
-  bit-back : j ≡ bitOfFrame area (frame answered) .0
-  bit-back =
-      sym (ap (λ (x : ℕ). x / perBit area) (add-sub-cancel-left (area .base .0) (j * perBit area)) ∙ mul-div-cancel j (pow-pos (area .order)))
-
   -- the outcome
   abbrev after : Outcome
   after = outcome m (done answered (movers t (place p) count)) left
 
   grant-after : grant m i count order t ≡ after
-  grant-after = grant-is ∙ ap (outcome m (done answered (movers t (place p) count))) left-is
+  unfolding grant
+  grant-after = checked-passed m t _ _ passed
+
+  same-lengths : SameLengths t left
+  unfolding takeRun
+  same-lengths =
+      record {
+        marks = simp (length-fill, length-set) (out .sized .marks ∙ sym (shape .marks-length));
+        words = simp (length-fill, length-set) (out .sized .words ∙ sym (shape .words-length));
+        bitmap = change-length _ (t .bitmap) (bitmapOf m i) j _;
+      }
 
   does-after : GrantDoes m i count t after p j
+  unfolding movers takeRun
   does-after =
       record {
-        run = refl;
-        bit-of-run = bit-back;
+        answer = ap (λ (x : ℕ). done x (movers t (place p) count)) (sym (at-is m t shape i count j known inside));
+        on-bit = sym (at-is m t shape i count j known inside);
+        in-memory = ready .inside;
+        machine = refl;
+        lengths = same-lengths;
         moved = moves-after;
         kept = same-after;
         first = marked-first moved-out p count some marks-room words-room;
         rest = marked-rest moved-out p count some marks-room words-room;
         words = marked-word moved-out p count some marks-room words-room;
         spare = λ q a b. same-after q (λ u v. absurd (omega arith)) (λ e. absurd (not-ordinary q (omega arith) b e));
-        bits-set = λ k a b. set-not-clear (t .bitmap) (bitmapOf m i) j (bitsFor area count) k a b (bit-inside k b);
-        bits-kept = λ k n. clear-outside (t .bitmap) (bitmapOf m i) j (bitsFor area count) setting k n;
-        words-kept = λ w h. word-kept setIn (t .bitmap) (bitmapOf m i) j (bitsFor area count) w (λ k a b e. omega arith);
+        bits =
+            record {
+              run = λ k a b. set-not-clear (t .bitmap) (bitmapOf m i) j (bitsFor area count) k a b (bit-inside k b);
+              others = λ k n. clear-outside (t .bitmap) (bitmapOf m i) j (bitsFor area count) setting k n;
+              words-before = λ w h. word-kept setIn (t .bitmap) (bitmapOf m i) j (bitsFor area count) w (λ k a b e. omega arith);
+            };
       }
 
   does : GrantDoes m i count t (grant m i count order t) p j
   does = subst (λ (o : Outcome). GrantDoes m i count t o p j) (sym grant-after) does-after
 
-  -- ---- the release of what was granted
+  -- ---- the release of what was granted is accepted
   abbrev f : Frame
   f = frame answered
 
-  abbrev released : Tables
-  released = withBitmap (fillPages left (place p) count 0 0) (clearBits (left .bitmap) (bitmapOf m i) j (bitsFor area count))
-
-  marks-left : length (left .marks) ≡ length (t .marks)
-  marks-left = simp (length-fill, length-set) (out .sized .marks ∙ sym (shape .marks-length))
-
-  words-left : length (left .words) ≡ length (t .words)
-  words-left = simp (length-fill, length-set) (out .sized .words ∙ sym (shape .words-length))
-
-  bitmap-left : length (left .bitmap) ≡ length (t .bitmap)
-  bitmap-left = change-length _ (t .bitmap) (bitmapOf m i) j (bitsFor area count)
-
   right-left : shapeRight m left ≡ true
-  right-left = same-shape m t left marks-left words-left bitmap-left ∙ right
+  right-left = shape-lengths m t left (same-lengths .marks) (same-lengths .words) (same-lengths .bitmap) ∙ right
 
   head-there : markAt left (place p) ≡ markOf count head
   head-there = does-after .first
@@ -235,58 +219,68 @@ module _ (m : Machine) (i count order : ℕ) (t : Tables) (passed : Passed (gran
   release-passes : Passed (releaseChecks m i f count left)
   release-passes = (ap not right-left, (inside-area, (on-bit, (agrees, tt))))
 
-  release-is : release m i f count left ≡ outcome m (done 0 0) released
-  unfolding release freeRun
-  release-is = checked-passed m left _ _ release-passes ∙ ap (λ (k : ℕ). outcome m (done 0 0) (withBitmap (fillPages left (place p) count 0 0) (clearBits (left .bitmap) (bitmapOf m i) k (bitsFor area count)))) (sym bit-back)
+  abbrev u : Outcome
+  u = release m i f count left
 
-  bitmap-back : released .bitmap ≡ t .bitmap
-  bitmap-back = clear-set (t .bitmap) (bitmapOf m i) j (bitsFor area count) (all-every _ j (bitsFor area count) (grantable .candidate .clear))
+  release-accepted : u .answer .refusal ≡ 0
+  unfolding release
+  release-accepted = ap (λ (o : Outcome). o .answer .refusal) (checked-passed m left _ _ release-passes)
 
-  -- a frame of an area can leave now if it could before the grant: in the run it is free, and elsewhere it is as it was
-  leaves-in : (q : ℕ) → p ≤ q → q < p + count → kindOf (markAt released (place q)) ≡ free
-  leaves-in q a b = ap kindOf (getD-fill-in 0 (left .marks) p count q a b (omega (arith, marks-left, shape .marks-length, ready .inside)))
+  -- ---- and what it leaves, by what the two calls promise
+  module _ (p′ j′ : ℕ) (r : ReleaseDoes m i f count left u p′ j′) where
+    same-place : p′ ≡ p
+    same-place = omega (arith, r .at, at-is m t shape i count j known inside)
 
-  same-out : (q : ℕ) → isOrdinary m (place q) ≡ false → (p ≤ q → q < p + count → ⊥) → markAt released (place q) ≡ markAt t (place q)
-  unfolding freeOrdinary
-  same-out q o outside =
-      let s = same-after q outside (λ e. clash (isOrdinary m (place q)) (and-right (isFree t (place q)) (isOrdinary m (place q)) e) o) in
-      in-run-or-not q p count (λ a b. absurd (outside a b)) (λ h. getD-fill-below 0 (left .marks) p count q h ∙ s .mark)
-      (λ h. getD-fill-above 0 (left .marks) p count q h ∙ s .mark)
+    same-bit : j′ ≡ j
+    same-bit =
+        let e : j′ * perBit area ≡ j * perBit area = omega (arith, r .on-bit) in
+        eq-of-mul-eq-mul-right (perBit area) (pow-pos (area .order)) j′ j e
 
-  still-grantable : (i′ count′ order′ k : ℕ) → i′ < m .declared → Grantable m t i′ count′ order′ k → Grantable m released i′ count′ order′ k
-  still-grantable i′ count′ order′ k h g =
-      let c = g .candidate in
-      record {
-        candidate =
-            record {
-              aligned = c .aligned;
-              inside = c .inside;
-              clear = λ x a b. ap (λ (l : List ℕ). isClear l (bitmapOf m i′) x) bitmap-back ∙ c .clear x a b;
-            };
-        leaves =
-            λ q a b.
-            in-run-or-not q p count (λ u v. inl (leaves-in q u v))
-            (λ l. leaves-out q a b (λ u v. absurd (omega arith)))
-            (λ l. leaves-out q a b (λ u v. absurd (omega arith)));
-      }
-    where
-      leaves-out : (q : ℕ) → placeOfBit m i′ (bit k) .0 ≤ q → q < placeOfBit m i′ (bit k) .0 + count′ → (p ≤ q → q < p + count → ⊥) → (kindOf (markAt released (place q)) ≡ free) ⊎ (kindOf (markAt released (place q)) ≡ movable)
-      leaves-out q a b outside =
-          let o = run-in-area m t shape i′ count′ k h (g .candidate .inside) q a (omega (arith, count-le m t shape i′ count′ k h (g .candidate .inside))) in
-          subst (λ (x : ℕ). (kindOf x ≡ free) ⊎ (kindOf x ≡ movable)) (sym (same-out q o outside)) (g .leaves q a b)
+    -- the run's bits were clear, and nothing else changed in between
+    only-bits : OnlyBits t (u .left) (bitmapOf m i) j′ (bitsFor area count) true
+    only-bits =
+        record {
+          run = r .bits .run;
+          others = λ k n. r .bits .others k n ∙ does-after .bits .others k (λ a b. n (omega (arith, same-bit)) (omega (arith, same-bit)));
+          words-before = λ w h. r .bits .words-before w h ∙ does-after .bits .words-before w h;
+        }
 
-  freed-after : FreedRoom m i count order t after (release m i f count left)
-  freed-after =
-      subst (λ (u : Outcome). FreedRoom m i count order t after u) (sym release-is)
-      (record {
-        accepted = refl;
-        again = subst (λ (k : ℕ). Grantable m released i count order k) bit-back (still-grantable i count order j known grantable);
-        still = still-grantable;
-      })
+    -- a frame of an area can leave now if it could before the grant: in the run it is free, and elsewhere it is as it was
+    can-leave : (q : ℕ) → isOrdinary m (place q) ≡ false → Leaves t q → Leaves (u .left) q
+    unfolding freeOrdinary
+    can-leave q in-area before =
+        in-run-or-not q p′ count (λ a b. inl (ap kindOf (r .marks q a b))) (λ h. as-before (λ u v. absurd (omega arith)))
+        (λ h. as-before (λ u v. absurd (omega arith)))
+      where
+        not-free : freeOrdinary m t (place q) ≡ true → ⊥
+        not-free e = clash (isOrdinary m (place q)) (and-right (isFree t (place q)) (isOrdinary m (place q)) e) in-area
 
-  freed : FreedRoom m i count order t (grant m i count order t) (release (grant m i count order t .machine) i (frame (grant m i count order t .answer .first)) count (grant m i count order t .left))
+        as-before : (p′ ≤ q → q < p′ + count → ⊥) → Leaves (u .left) q
+        as-before outside =
+            let s = does-after .kept q (λ a b. outside (omega (arith, same-place)) (omega (arith, same-place))) (λ e. absurd (not-free e)) in
+            subst (λ (x : ℕ). (kindOf x ≡ free) ⊎ (kindOf x ≡ movable)) (sym (r .kept q outside .mark ∙ s .mark)) before
+
+    freed-room : FreedRoom m i count order t after u j′
+    freed-room =
+        record {
+          accepted = release-accepted;
+          on-bit = r .on-bit;
+          again = r .again count order j′ aligned (omega arith) (omega arith) (omega (arith, r .at, r .on-bit));
+          still = stays-grantable m t (u .left) shape (stays-clear t (u .left) (bitmapOf m i) j′ (bitsFor area count) only-bits) can-leave;
+        }
+      where
+        aligned : frameOfBit area (bit j′) .0 % 2 ^ order ≡ 0
+        aligned = subst (λ (k : ℕ). frameOfBit area (bit k) .0 % 2 ^ order ≡ 0) (sym same-bit) (grantable .candidate .aligned)
+
+  freed-after : (k : ℕ) × FreedRoom m i count order t after u k
+  freed-after = let r = accepted-release m i f count left release-accepted in (r .1, freed-room (r .0) (r .1) (r .2))
+
+  freed :
+      let o = grant m i count order t in
+      (k : ℕ) × FreedRoom m i count order t o (release (o .machine) i (frame (o .answer .first)) count (o .left)) k
   freed =
-      subst (λ (o : Outcome). FreedRoom m i count order t o (release (o .machine) i (frame (o .answer .first)) count (o .left))) (sym grant-after) freed-after
+      subst (λ (o : Outcome). (k : ℕ) × FreedRoom m i count order t o (release (o .machine) i (frame (o .answer .first)) count (o .left)) k)
+      (sym grant-after) freed-after
 
 pub accepted-grant : AcceptedGrant
 accepted-grant m i count order t e =

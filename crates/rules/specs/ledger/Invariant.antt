@@ -42,7 +42,7 @@ pub record NameSound (m : Machine) (t : Tables) (l : Ledger) (name : ℕ) : Type
   pub allowed : l .live name ≡ true → badName name ≡ false
 
 -- a grant lies in one area of the record, on a bit boundary
-pub record InArea (m : Machine) (g : Grant) : Type 0 where
+pub record GrantInArea (m : Machine) (g : Grant) : Type 0 where
   pub area : ℕ
   pub declared : area < m .declared
   pub low : areaAt m area .base .0 ≤ g .first .0
@@ -56,7 +56,7 @@ pub record GrantSound (m : Machine) (t : Tables) (g : Grant) : Type 0 where
   pub high : g .first .0 + g .count ≤ endFrame m
   pub first : markAt t (placeOf m (g .first)) ≡ markOf (g .count) head
   pub rest : (p : ℕ) → placeOf m (g .first) .0 < p → p < placeOf m (g .first) .0 + g .count → markAt t (place p) ≡ markOf 0 later
-  pub inArea : InArea m g
+  pub inArea : GrantInArea m g
 
 -- some frame of bit j of area i is granted
 abbrev pub hasGranted : Machine → Tables → ℕ → ℕ → Bool

@@ -6,21 +6,31 @@ use mathlib.Core.Path.{_≡_}
 use lib.Dec.{eqb}
 use Rattle.search.specs.Choice.{if_then_else_}
 use Rattle.answer.specs.declared.Answer.{Answer}
-use Rattle.frames.specs.Tables.{Tables}
+use Rattle.frames.specs.Tables.{Tables, tables}
 use Rattle.rules.specs.Record.{Machine, frameAt}
 use Rattle.rules.specs.Outcomes.{Outcome}
 use Rattle.rules.specs.PageCalls.{pageAt}
 use Rattle.rules.specs.Calls.{Call, putMovable, putFixed, dropPage, pinPage, unpinPage, storePage, readPage, grant, release, deviceStore, deviceRead, declare, boot, perform}
 use Rattle.rules.specs.ledger.Ledger.{Ledger, emptyLedger, fed}
 
--- one of a list: a call that is lent the boot's own tables, as last left, or a call that is lent others
-pub data Item : Type 0 where
-  onOwn : Call → Item
-  onOther : Call → Tables → Item
+-- what an item is lent as one table: the boot's own, as last left, or another
+pub data Lent : Type 0 where
+  own : Lent
+  another : List ℕ → Lent
 
-abbrev pub callOf : Item → Call
-callOf (onOwn c) = c
-callOf (onOther c other) = c
+-- one of a list: a call, and what it is lent as each table, each by itself
+pub record Item : Type 0 where
+  pub call : Call
+  pub marks : Lent
+  pub words : Lent
+  pub bitmap : Lent
+
+abbrev pub item : Call → Lent → Lent → Lent → Item
+item c marks words bitmap = record { call = c; marks = marks; words = words; bitmap = bitmap }
+
+-- a call that is lent the boot's own tables
+abbrev pub onOwn : Call → Item
+onOwn c = item c own own own
 
 -- where a list stands: the record that the last call returned, the boot's tables as last left, and the ledger
 pub record State : Type 0 where
@@ -31,20 +41,37 @@ pub record State : Type 0 where
 abbrev pub isRefused : Outcome → Bool
 isRefused o = not (eqb (o .answer .refusal) 0)
 
--- each item is given the record that the last one returned
-abbrev pub outcomeIn : State → Item → Outcome
-outcomeIn s (onOwn c) = perform c (s .machine) (s .own)
-outcomeIn s (onOther c other) = perform c (s .machine) other
+-- one table as it is lent, where the boot's own is `was`
+abbrev pub lentAs : Lent → List ℕ → List ℕ
+lentAs own was = was
+lentAs (another table) was = table
 
--- the boot's tables after an item: only a call that is lent them can write them
-abbrev pub ownAfter : State → Item → Tables
-ownAfter s (onOwn c) = perform c (s .machine) (s .own) .left
-ownAfter s (onOther c other) = s .own
+-- the boot's own after a call that left `left` of what it was lent: only a call that is lent the boot's own can write it
+abbrev pub keptAs : Lent → List ℕ → List ℕ → List ℕ
+keptAs own was left = left
+keptAs (another table) was left = was
+
+-- each item is given the record that the last one returned, and the tables that it is lent
+abbrev pub lentTo : Item → Tables → Tables
+lentTo x was = tables (lentAs (x .marks) (was .marks)) (lentAs (x .words) (was .words)) (lentAs (x .bitmap) (was .bitmap))
+
+abbrev pub outcomeIn : State → Item → Outcome
+outcomeIn s x = perform (x .call) (s .machine) (lentTo x (s .own))
+
+-- the boot's tables after an item
+abbrev pub ownAfter : Item → Tables → Tables → Tables
+ownAfter x was left =
+    tables (keptAs (x .marks) (was .marks) (left .marks)) (keptAs (x .words) (was .words) (left .words))
+    (keptAs (x .bitmap) (was .bitmap) (left .bitmap))
 
 unfoldable pub next : State → Item → State
 next s x =
     let o = outcomeIn s x in
-    record { machine = o .machine; own = ownAfter s x; ledger = fed (callOf x) (isRefused o) (o .answer .first) (s .ledger) }
+    record {
+      machine = o .machine;
+      own = ownAfter x (s .own) (o .left);
+      ledger = fed (x .call) (isRefused o) (o .answer .first) (s .ledger);
+    }
 
 unfoldable pub after : State → List Item → State
 after s [] = s
@@ -71,10 +98,13 @@ isBoot (deviceRead f) = false
 isBoot (declare request) = false
 isBoot (boot base frames order text) = true
 
+abbrev pub isOwn : Lent → Bool
+isOwn own = true
+isOwn (another table) = false
+
 -- an item that may be accepted: no boot, and lent the boot's own tables
 abbrev pub mayPass : Item → Bool
-mayPass (onOwn c) = not (isBoot c)
-mayPass (onOther c other) = false
+mayPass x = not (isBoot (x .call)) && isOwn (x .marks) && isOwn (x .words) && isOwn (x .bitmap)
 
 -- each item is refused, or may be accepted
 unfoldable pub admitted : State → List Item → Bool
@@ -107,7 +137,7 @@ unfoldable pub lastPinFrame : ℕ → ℕ → State → List Item → ℕ
 lastPinFrame name before s [] = before
 lastPinFrame name before s (x ∷ xs) =
     lastPinFrame name
-    (if isPinOf name (callOf x) && not (isRefused (outcomeIn s x)) then frameOfPage (next s x) name else before)
+    (if isPinOf name (x .call) && not (isRefused (outcomeIn s x)) then frameOfPage (next s x) name else before)
     (next s x) xs
 
 -- ---- Two runs
@@ -117,13 +147,13 @@ pub data SameCall (chosen : ℕ → Bool) : Call → Call → Type 0 where
   same : (c : Call) → SameCall chosen c c
   otherWord : (name word word′ : ℕ) → chosen name ≡ true → SameCall chosen (storePage name word) (storePage name word′)
 
--- two lists of such calls, in which other tables that are lent are the same
+-- two lists of such calls, that are lent the same: the own table of each run, or one other in both
 pub data SameList (chosen : ℕ → Bool) : List Item → List Item → Type 0 where
   none : SameList chosen [] []
-  own : {c d : Call} {xs ys : List Item} → SameCall chosen c d → SameList chosen xs ys → SameList chosen (onOwn c ∷ xs) (onOwn d ∷ ys)
-  other :
-      {c d : Call} {t : Tables} {xs ys : List Item} →
-      SameCall chosen c d → SameList chosen xs ys → SameList chosen (onOther c t ∷ xs) (onOther d t ∷ ys)
+  more :
+      {c d : Call} {marks words bitmap : Lent} {xs ys : List Item} →
+      SameCall chosen c d →
+      SameList chosen xs ys → SameList chosen (item c marks words bitmap ∷ xs) (item d marks words bitmap ∷ ys)
 
 -- an answer without the word that a read of a chosen name gives
 abbrev pub withoutWord : Answer → Answer
@@ -147,4 +177,4 @@ seen chosen (boot base frames order text) a = a
 -- the answers of a list, but for the words read from the chosen names
 unfoldable pub seenAnswers : (ℕ → Bool) → State → List Item → List Answer
 seenAnswers chosen s [] = []
-seenAnswers chosen s (x ∷ xs) = seen chosen (callOf x) (outcomeIn s x .answer) ∷ seenAnswers chosen (next s x) xs
+seenAnswers chosen s (x ∷ xs) = seen chosen (x .call) (outcomeIn s x .answer) ∷ seenAnswers chosen (next s x) xs

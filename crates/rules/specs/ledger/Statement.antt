@@ -4,17 +4,18 @@
 use Prim.Native.Nat.{ℕ, _+_, _≤_, _<_}
 use mathlib.Core.Bool.{Bool, true, false, not}
 use mathlib.Core.List.{List}
+use mathlib.Core.Logic.{_≢_}
 use mathlib.Core.Path.{_≡_}
 use lib.Dec.{ltb}
-use lib.ListN.{length}
 use Rattle.search.specs.Search.{howMany}
 use Rattle.frames.specs.declared.Frame.{Frame}
 use Rattle.frames.specs.Units.{frame, place}
-use Rattle.frames.specs.Marks.{isPageOf, isGranted}
+use Rattle.frames.specs.Marks.{kindOf, markOf, isPageOf, isGranted, pinned}
 use Rattle.frames.specs.Tables.{Tables, markAt, wordAt}
 use Rattle.rules.specs.Record.{Machine, placeOf, frameAt, endFrame}
 use Rattle.rules.specs.Outcomes.{Outcome}
 use Rattle.rules.specs.Calls.{readPage, deviceRead, boot, perform}
+use Rattle.rules.specs.promises.Changes.{SameLengths}
 use Rattle.rules.specs.ledger.Ledger.{grantsAt}
 use Rattle.rules.specs.ledger.Runs.{Item, State, isRefused, startOf, after, admitted, frameOfPage, lastPinFrame, SameList, seenAnswers}
 
@@ -45,7 +46,19 @@ pub record ReadsRight (s : State) : Type 0 where
       p < s .machine .frames →
       isPageOf name (markAt (s .own) (place p)) ≡ true → frameAt (s .machine) (place p) .0 ≡ pageRead s name .answer .first
 
--- (2) a pinned page's frame is the same now as right after its last accepted pin; `none` is any number, so there was such a pin
+-- (2) a page that the ledger has as pinned is live, and the mark at its frame, which lies in memory, has its name and kind 2; no other live page
+-- has a mark of kind 2
+abbrev pub markOfPage : State → ℕ → ℕ
+markOfPage s name = markAt (s .own) (placeOf (s .machine) (frame (frameOfPage s name)))
+
+pub record PinsRight (s : State) : Type 0 where
+  pub live : (name : ℕ) → s .ledger .pinned name ≡ true → s .ledger .live name ≡ true
+  pub inside :
+      (name : ℕ) → s .ledger .pinned name ≡ true → (s .machine .base .0 ≤ frameOfPage s name) × (frameOfPage s name < endFrame (s .machine))
+  pub marked : (name : ℕ) → s .ledger .pinned name ≡ true → markOfPage s name ≡ markOf name pinned
+  pub unmarked : (name : ℕ) → s .ledger .live name ≡ true → s .ledger .pinned name ≡ false → kindOf (markOfPage s name) ≢ pinned
+
+-- its frame is the same now as right after its last accepted pin; `none` is any number, so there was such a pin
 pub record PinsStay (start : State) (items : List Item) : Type 0 where
   pub stays :
       (name none : ℕ) →
@@ -69,11 +82,6 @@ pub record DeviceWordsRight (s : State) : Type 0 where
 pub record RunsAgree (start start′ : State) (items : List Item) : Type 0 where
   pub agree :
       (chosen : ℕ → Bool) (items′ : List Item) → SameList chosen items items′ → seenAnswers chosen start items ≡ seenAnswers chosen start′ items′
-
-pub record SameLengths (t t′ : Tables) : Type 0 where
-  pub marks : length (t .marks) ≡ length (t′ .marks)
-  pub words : length (t .words) ≡ length (t′ .words)
-  pub bitmap : length (t .bitmap) ≡ length (t′ .bitmap)
 
 -- a boot with its numbers and its text, and the record and the tables that it is given
 pub record Boot : Type 0 where
@@ -100,6 +108,7 @@ pub record SameBoot (b c : Boot) : Type 0 where
 
 pub record Demand3 (b : Boot) (items : List Item) : Type 0 where
   pub reads : ReadsRight (after (startOfBoot b) items)
+  pub pinned : PinsRight (after (startOfBoot b) items)
   pub pins : PinsStay (startOfBoot b) items
   pub grants : GrantsRight (after (startOfBoot b) items)
   pub deviceWords : DeviceWordsRight (after (startOfBoot b) items)

@@ -1,76 +1,116 @@
--- What the page calls promise, in plain quantifiers beside the executable definitions.
+-- What the page calls promise, in plain quantifiers beside the executable definitions: what an accepted call answers, which entry of which table it
+-- changes, and to what. Every other entry and the record are as they were.
 use Prim.Native.Nat.{ℕ, _+_, _<_}
 use mathlib.Core.Path.{_≡_}
-use mathlib.Core.Logic.{_⊎_, _≢_}
-use mathlib.Core.Bool.{Bool, true, false}
-use mathlib.Core.List.{List}
+use mathlib.Core.Logic.{_⊎_, _≢_, _↔_}
+use mathlib.Core.Bool.{true}
 use Rattle.answer.specs.Answers.{done}
 use Rattle.frames.specs.Units.{place}
-use Rattle.frames.specs.Marks.{isPageOf, movable, pinned, fixed}
+use Rattle.frames.specs.Marks.{markOf, movable, pinned, fixed}
 use Rattle.frames.specs.Tables.{Tables, markAt, wordAt}
-use Rattle.rules.specs.Record.{Machine, isOrdinary}
-use Rattle.rules.specs.Outcomes.{Outcome, Check, First, Passed, outcome, refuse}
-use Rattle.rules.specs.PageCalls.{pageAt, isLive, isFree, putPage, putChecks, dropPage, dropChecks, changeKind, changeChecks, pinPage, pageHas, storePage, storeChecks, readPage, readChecks}
+use Rattle.rules.specs.Record.{Machine}
+use Rattle.rules.specs.Outcomes.{Outcome, outcome}
+use Rattle.rules.specs.PageCalls.{isLive, putMovable, putFixed, dropPage, pinPage, unpinPage, pageHas, storePage, readPage}
+use Rattle.rules.specs.promises.Changes.{kindAt, fieldAt, OnlyPage}
+use Rattle.rules.specs.promises.Shapes.{InArea}
 
--- ---- A call is refused with exactly the first number of its list whose condition holds, and changes no table and no record when refused
-
-pub record RefusedByFirst (cs : List Check) (m : Machine) (t : Tables) (o : Outcome) : Type 0 where
-  -- where the first check that holds has the number n, that is the answer, and the record and the tables are those given
-  pub stops : (n : ℕ) → First cs n → o ≡ refuse m t n
-  -- a call that is refused has such a check, and its number is the answer's
-  pub only : o .answer .refusal ≢ 0 → First cs (o .answer .refusal)
-  -- a call that is done has passed every check
-  pub passes : o .answer .refusal ≡ 0 → Passed cs
-
-pub record PageRefusals : Type 0 where
-  pub put : (kind : ℕ) (m : Machine) (name : ℕ) (t : Tables) → RefusedByFirst (putChecks kind m name t) m t (putPage kind m name t)
-  pub drop : (m : Machine) (name : ℕ) (t : Tables) → RefusedByFirst (dropChecks m name t) m t (dropPage m name t)
-  -- pin and unpin
-  pub change : (from to : ℕ) (m : Machine) (name : ℕ) (t : Tables) → RefusedByFirst (changeChecks from m name t) m t (changeKind from to m name t)
-  pub store : (m : Machine) (name word : ℕ) (t : Tables) → RefusedByFirst (storeChecks m name t) m t (storePage m name word t)
-  pub read : (m : Machine) (name : ℕ) (t : Tables) → RefusedByFirst (readChecks m name t) m t (readPage m name t)
-
--- ---- Put answers the lowest free ordinary frame, and an area frame only for a movable page and only when no ordinary frame is free
+-- ---- Put takes the lowest free ordinary frame, and an area frame only for a movable page and only when no ordinary frame is free
 
 -- place p of the machine is free and ordinary; it is free and in an area
 pub record FreeOrdinary (m : Machine) (t : Tables) (p : ℕ) : Type 0 where
   pub in-memory : p < m .frames
-  pub is-free : isFree t (place p) ≡ true
-  pub is-ordinary : isOrdinary m (place p) ≡ true
+  pub is-free : kindAt t p ≡ 0
+  pub is-ordinary : (i : ℕ) → InArea m (m .base .0 + p) i → ⊥
 
 pub record FreeInArea (m : Machine) (t : Tables) (p : ℕ) : Type 0 where
   pub in-memory : p < m .frames
-  pub is-free : isFree t (place p) ≡ true
-  pub in-area : isOrdinary m (place p) ≡ false
+  pub is-free : kindAt t p ≡ 0
+  pub in-area : (i : ℕ) × InArea m (m .base .0 + p) i
+
+abbrev pub NoneFreeOrdinary : Machine → Tables → Type 0
+NoneFreeOrdinary m t = (p : ℕ) → FreeOrdinary m t p → ⊥
 
 -- p is the lowest place of which Q holds
 abbrev pub Lowest : (ℕ → Type 0) → ℕ → Type 0
 Lowest Q p = Q p × ((q : ℕ) → q < p → Q q → ⊥)
 
-abbrev pub PutTakesLowest : Type 0
-PutTakesLowest =
-    (kind : ℕ) (m : Machine) (name : ℕ) (t : Tables) →
-    putPage kind m name t .answer .refusal ≡ 0 →
-    (p : ℕ) → putPage kind m name t .answer .first ≡ m .base .0 + p →
-    Lowest (FreeOrdinary m t) p ⊎ ((kind ≡ movable) × ((q : ℕ) → FreeOrdinary m t q → ⊥) × Lowest (FreeInArea m t) p)
+-- place p is where a page of that kind goes
+abbrev pub PutPlace : ℕ → Machine → Tables → ℕ → Type 0
+PutPlace kind m t p = Lowest (FreeOrdinary m t) p ⊎ ((kind ≡ movable) × NoneFreeOrdinary m t × Lowest (FreeInArea m t) p)
 
--- ---- When a name stands twice, the lowest frame is meant
+-- the page is put at place p
+pub record PutDoes (kind : ℕ) (m : Machine) (name : ℕ) (t : Tables) (o : Outcome) (p : ℕ) : Type 0 where
+  pub lowest : PutPlace kind m t p
+  pub answer : o .answer ≡ done (m .base .0 + p) 0
+  pub page : OnlyPage t (o .left) p (markOf name kind) 0
+  pub machine : o .machine ≡ m
 
--- place p of the machine has a page of that name
+abbrev pub AcceptedPutMovable : Type 0
+AcceptedPutMovable =
+    (m : Machine) (name : ℕ) (t : Tables) →
+    let o = putMovable m name t in
+    o .answer .refusal ≡ 0 → (p : ℕ) × PutDoes movable m name t o p
+
+abbrev pub AcceptedPutFixed : Type 0
+AcceptedPutFixed =
+    (m : Machine) (name : ℕ) (t : Tables) →
+    let o = putFixed m name t in
+    o .answer .refusal ≡ 0 → (p : ℕ) × PutDoes fixed m name t o p
+
+-- ---- The calls on a live page: when its name stands twice, the lowest frame is meant
+
+-- place p of the machine has a page of that name: movable, pinned or fixed
 pub record Stands (m : Machine) (t : Tables) (name p : ℕ) : Type 0 where
   pub in-memory : p < m .frames
-  pub is-page : isPageOf name (markAt t (place p)) ≡ true
+  pub kind : (kindAt t p ≡ 1) ⊎ (kindAt t p ≡ 2) ⊎ (kindAt t p ≡ 3)
+  pub field : fieldAt t p ≡ name
 
-pub record FindsLowest : Type 0 where
-  -- a read answers the lowest frame where the name stands, and the word there
-  pub read :
-      (m : Machine) (name : ℕ) (t : Tables) →
-      readPage m name t .answer .refusal ≡ 0 →
-      (p : ℕ) → readPage m name t .answer .first ≡ m .base .0 + p →
-      Lowest (Stands m t name) p × (readPage m name t .answer .second ≡ wordAt t (place p))
-  -- a name is live just where it stands
-  pub live : (m : Machine) (name : ℕ) (t : Tables) (p : ℕ) → Stands m t name p → isLive m t name ≡ true
-  pub stands : (m : Machine) (name : ℕ) (t : Tables) → isLive m t name ≡ true → Stands m t name (pageAt m t name .0)
+-- a name is live just if it stands somewhere
+abbrev pub Live : Machine → Tables → ℕ → Type 0
+Live m t name = (p : ℕ) × Stands m t name p
+
+abbrev pub LiveIfStands : Type 0
+LiveIfStands = (m : Machine) (name : ℕ) (t : Tables) → (isLive m t name ≡ true) ↔ Live m t name
+
+-- the page is at place p, and has this mark and word now
+pub record PageDoes (m : Machine) (name : ℕ) (t : Tables) (o : Outcome) (p mark word : ℕ) : Type 0 where
+  pub lowest : Lowest (Stands m t name) p
+  pub answer : o .answer ≡ done 0 0
+  pub page : OnlyPage t (o .left) p mark word
+  pub machine : o .machine ≡ m
+
+abbrev pub AcceptedDrop : Type 0
+AcceptedDrop =
+    (m : Machine) (name : ℕ) (t : Tables) →
+    let o = dropPage m name t in
+    o .answer .refusal ≡ 0 → (p : ℕ) × (kindAt t p ≢ pinned) × PageDoes m name t o p 0 0
+
+abbrev pub AcceptedPin : Type 0
+AcceptedPin =
+    (m : Machine) (name : ℕ) (t : Tables) →
+    let o = pinPage m name t in
+    o .answer .refusal ≡ 0 →
+    (p : ℕ) × (kindAt t p ≡ movable) × PageDoes m name t o p (markOf name pinned) (wordAt t (place p))
+
+abbrev pub AcceptedUnpin : Type 0
+AcceptedUnpin =
+    (m : Machine) (name : ℕ) (t : Tables) →
+    let o = unpinPage m name t in
+    o .answer .refusal ≡ 0 →
+    (p : ℕ) × (kindAt t p ≡ pinned) × PageDoes m name t o p (markOf name movable) (wordAt t (place p))
+
+abbrev pub AcceptedStore : Type 0
+AcceptedStore =
+    (m : Machine) (name word : ℕ) (t : Tables) →
+    let o = storePage m name word t in
+    o .answer .refusal ≡ 0 → (p : ℕ) × (kindAt t p ≢ pinned) × PageDoes m name t o p (markAt t (place p)) word
+
+-- a read answers the frame and its word, and leaves record and tables as they were
+abbrev pub AcceptedRead : Type 0
+AcceptedRead =
+    (m : Machine) (name : ℕ) (t : Tables) →
+    let o = readPage m name t in
+    o .answer .refusal ≡ 0 → (p : ℕ) × Lowest (Stands m t name) p × (o ≡ outcome m (done (m .base .0 + p) (wordAt t (place p))) t)
 
 -- ---- A store that is accepted is what the next read gives
 
@@ -81,7 +121,7 @@ StoreThenRead =
     o .answer .refusal ≡ 0 →
     (readPage (o .machine) name (o .left) .answer .refusal ≡ 0) × (readPage (o .machine) name (o .left) .answer .second ≡ word)
 
--- ---- A pinned page is neither dropped nor rewritten nor pinned again: the call is refused, and changes nothing
+-- ---- A pinned page is neither dropped nor rewritten nor pinned again: the call is refused
 
 pub record PinnedIsKept (m : Machine) (t : Tables) (name : ℕ) : Type 0 where
   pub drop : dropPage m name t .answer .refusal ≢ 0

@@ -4,14 +4,19 @@ use Prim.Native.Nat.{_-_, _≤_}
 use native.Mathlib.Omega.{arith}
 use mathlib.Core.Path.{_≡_}
 use lib.ListN.{length}
+use Rattle.playback.specs.Replay.{heldBitmapWords}
 use Rattle.cases.proofs.texts.answer_texts.Statement.{statement}
 use Rattle.cases.proofs.texts.answer_texts.Tie as tie
 
 abbrev Inv-loop : tie.InvT-loop
-Inv-loop list out₀ marks₀ words₀ bitmap₀ text₀ at₀ out marks words bitmap text at = (text ≤ length out) × (length out ≡ length out₀) × (length marks ≡ 32) × (length words ≡ 32) × (length bitmap ≡ 40)
+Inv-loop list out₀ marks₀ words₀ bitmap₀ text₀ at₀ out marks words bitmap text at =
+    (text ≤ length out) × (length out ≡ length out₀) × (length marks ≡ 32) × (length words ≡ 32) × (length bitmap ≡ heldBitmapWords)
 
 abbrev μ-loop : tie.MeasureT-loop
 μ-loop list out₀ marks₀ words₀ bitmap₀ text₀ at₀ out marks words bitmap text at = length list - at
+
+bitmap-requires : tie.Need-bitmap-requires Inv-loop μ-loop
+bitmap-requires c κs = search needs
 
 loop-holds : tie.Need-loop-holds Inv-loop μ-loop
 loop-holds c = search needs
@@ -65,6 +70,7 @@ answer-texts-spec =
     (tie.spec
     Inv-loop
     μ-loop
+    bitmap-requires
     loop-holds
     line-end-requires
     slice-aggregate-put-text

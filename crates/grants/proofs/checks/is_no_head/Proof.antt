@@ -9,8 +9,8 @@ use Rattle.grants.proofs.checks.is_no_head.Tie as tie
 block-of-requires : tie.Need-block-of-requires
 block-of-requires c κs = search needs
 
-sub-if1 : tie.Need-sub-if1
-sub-if1 c = search needs
+sub-past : tie.Need-sub-past
+sub-past c = search needs
 
 rem-if1 : tie.Need-rem-if1
 rem-if1 c = omega (arith, c .before .before .block-of .ensures, pow-pos (c .before .before .before .before .args .a .order))
@@ -28,4 +28,4 @@ returns-2 : tie.Need-returns-2
 returns-2 c = let x = c .before .before .before .before .before .before .args in second-decides _ _ (off-no (x .a) (x .frame) _ (c .before .before .before .before .block-of .ensures) (c .before .if1 .left))
 
 pub is-no-head-spec : {M : Type 1} → statement M
-is-no-head-spec = tie.close (tie.spec block-of-requires sub-if1 rem-if1 returns mul-result shared-slice-read-result returns-2)
+is-no-head-spec = tie.close (tie.spec block-of-requires sub-past rem-if1 returns mul-result shared-slice-read-result returns-2)

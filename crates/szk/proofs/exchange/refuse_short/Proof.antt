@@ -8,8 +8,14 @@ use borrow.Author.Needs.{needs}
 use Rattle.szk.proofs.exchange.refuse_short.Statement.{statement}
 use Rattle.szk.proofs.exchange.refuse_short.Tie as tie
 
+store-refusal-requires : tie.Need-store-refusal-requires
+store-refusal-requires c κs = search needs
+
+same-length : tie.Need-same-length
+same-length c = search needs
+
 returns : tie.Need-returns
-returns c = no-room _ _ (c .if1 .taken)
+returns c = rw (c .before .before .store-refusal .ensures) (no-room _ _ (c .before .before .before .before .if1 .taken))
 
 refused-requires : tie.Need-refused-requires
 refused-requires c κs = search needs
@@ -17,8 +23,8 @@ refused-requires c κs = search needs
 store-answer-requires : tie.Need-store-answer-requires
 store-answer-requires c κs = search needs
 
-same-length : tie.Need-same-length
-same-length c = search needs
+same-length-2 : tie.Need-same-length-2
+same-length-2 c = search needs
 
 returns-2 : tie.Need-returns-2
 returns-2 c =
@@ -34,4 +40,4 @@ returns-3 c = long-enough _ _ (c .before .if1 .left) (c .if2 .left)
 pub refuse-short-spec : {M : Type 1} → statement M
 refuse-short-spec =
     tie.close
-    (tie.spec returns refused-requires store-answer-requires same-length returns-2 returns-3)
+    (tie.spec store-refusal-requires same-length returns refused-requires store-answer-requires same-length-2 returns-2 returns-3)

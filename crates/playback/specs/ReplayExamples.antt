@@ -1,0 +1,52 @@
+-- What replay must give for some inputs: document 01's printed output, an input with no record, and inputs that end badly.
+use Prim.Native.Nat.{ℕ}
+use Prim.Native.Char.{code}
+use Prim.Native.String.{String}
+use Prim.Native.String as String
+use mathlib.Core.Path.{_≡_}
+use mathlib.Core.List.{List, [], _∷_, _++_}
+use Rattle.playback.specs.Replay.{replayOutput}
+
+-- the bytes of a text
+abbrev pub ascii : String → List ℕ
+ascii String.[] = []
+ascii (String._∷_ c text) = code c ∷ ascii text
+
+-- A boot: P 4, n 32, b 2
+abbrev pub bootA : List ℕ
+bootA = 0 ∷ 4 ∷ 0 ∷ 0 ∷ 0 ∷ 0 ∷ 0 ∷ 0 ∷ 0 ∷ 32 ∷ 0 ∷ 0 ∷ 0 ∷ 2 ∷ []
+
+-- A declare: base 32,768, size 65,536, limit 0, alignment 0, k 0, fixed
+abbrev pub declareA : List ℕ
+declareA =
+    12 ∷ 0 ∷ 128 ∷ 0 ∷ 0 ∷ 0 ∷ 0 ∷ 0 ∷ 0 ∷
+    0 ∷ 0 ∷ 1 ∷ 0 ∷ 0 ∷ 0 ∷ 0 ∷ 0 ∷
+    0 ∷ 0 ∷ 0 ∷ 0 ∷ 0 ∷ 0 ∷ 0 ∷ 0 ∷
+    0 ∷ 0 ∷ 0 ∷ 0 ∷ 0 ∷ 0 ∷ 0 ∷ 0 ∷ 0 ∷ 1 ∷ []
+
+-- grant 3 of area 0 at order 0
+abbrev pub grant3 : List ℕ
+grant3 = 8 ∷ 0 ∷ 0 ∷ 3 ∷ 0 ∷ 0 ∷ 0 ∷ []
+
+abbrev pub putMovable7 : List ℕ
+putMovable7 = 1 ∷ 7 ∷ 0 ∷ 0 ∷ 0 ∷ []
+
+abbrev pub read7 : List ℕ
+read7 = 7 ∷ 7 ∷ 0 ∷ 0 ∷ 0 ∷ []
+
+-- a boot with one frame more than the program holds
+abbrev pub bootTooLarge : List ℕ
+bootTooLarge = 0 ∷ 4 ∷ 0 ∷ 0 ∷ 0 ∷ 0 ∷ 0 ∷ 0 ∷ 0 ∷ 1 ∷ 8 ∷ 0 ∷ 0 ∷ 2 ∷ []
+
+pub record Examples : Type 0 where
+  -- the whole output that document 01 prints
+  pub printed : replayOutput (bootA ++ declareA ++ grant3 ++ putMovable7 ++ read7)
+      ≡ ascii "step refusal first second\n0 0 0 0\n1 0 8 16\n2 0 8 0\n3 0 4 0\n4 0 4 0\nend 5\n"
+  -- no record
+  pub empty : replayOutput [] ≡ ascii "step refusal first second\nend 0\n"
+  -- before the first accepted boot, and a boot that is too large
+  pub notBooted : replayOutput (read7 ++ bootTooLarge ++ read7) ≡ ascii "step refusal first second\n0 1 0 0\n1 1 0 0\n2 1 0 0\nend 3\n"
+  -- a body that lacks its last byte
+  pub cut : replayOutput (bootA ++ putMovable7 ++ (7 ∷ 7 ∷ 0 ∷ 0 ∷ [])) ≡ ascii "step refusal first second\n0 0 0 0\n1 0 4 0\nbad 19\n"
+  -- a kind that is none, and a record after it
+  pub unknown : replayOutput (bootA ++ (13 ∷ read7)) ≡ ascii "step refusal first second\n0 0 0 0\nbad 14\n"
