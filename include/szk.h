@@ -46,16 +46,16 @@ extern "C" {
 /* ---- the record ---- */
 
 #define SZK_RECORD_NUMBERS 28
-#define SZK_RECORD_BASE 0     /* P: the first physical frame */
-#define SZK_RECORD_FRAMES 1   /* n: how many frames there are */
-#define SZK_RECORD_ORDER 2    /* b: a block is 2^b frames */
-#define SZK_RECORD_DECLARED 3 /* how many area records are in use */
-#define SZK_RECORD_AREAS 4    /* area i begins at SZK_RECORD_AREAS + SZK_AREA_NUMBERS * i */
+#define SZK_RECORD_BASE 0        /* P: the first physical frame */
+#define SZK_RECORD_FRAMES 1      /* n: how many frames there are */
+#define SZK_RECORD_BLOCK_ORDER 2 /* b: a block is 2^b frames */
+#define SZK_RECORD_DECLARED 3    /* how many area records are in use */
+#define SZK_RECORD_AREAS 4       /* area i begins at SZK_RECORD_AREAS + SZK_AREA_NUMBERS * i */
 
 #define SZK_AREA_NUMBERS 3
-#define SZK_AREA_BASE 0  /* the area's first physical frame */
-#define SZK_AREA_COUNT 1 /* its count of frames */
-#define SZK_AREA_ORDER 2 /* k: a bit of its bitmap stands for 2^k frames */
+#define SZK_AREA_BASE 0          /* the area's first physical frame */
+#define SZK_AREA_COUNT 1         /* its count of frames */
+#define SZK_AREA_ORDER_PER_BIT 2 /* k: a bit of its bitmap stands for 2^k frames */
 
 /* ---- the answer ---- */
 
@@ -71,11 +71,11 @@ extern "C" {
 #define SZK_MOST_FRAMES UINT64_C(65536)          /* n */
 #define SZK_LEAST_BASE UINT64_C(1)               /* P */
 #define SZK_MOST_END UINT64_C(68719476736)       /* P + n: 2^36 */
-#define SZK_MOST_ORDER UINT64_C(10)              /* b */
+#define SZK_MOST_BLOCK_ORDER UINT64_C(10)        /* b */
 #define SZK_MOST_AREAS UINT64_C(8)
 #define SZK_LEAST_NAME UINT64_C(1)
 #define SZK_MOST_NAME UINT64_C(536870911)        /* 2^29 - 1 */
-#define SZK_MOST_ALIGNMENT_ORDER UINT64_C(16)    /* of a grant */
+#define SZK_MOST_ALIGN_ORDER UINT64_C(16)        /* of a grant */
 #define SZK_MOST_BYTES UINT64_C(281474976710656) /* an amount of bytes: 2^48 */
 #define SZK_MOST_TEXT UINT64_C(1024)             /* bytes of a regions text */
 
@@ -117,16 +117,16 @@ extern "C" {
 /* ---- boot and area declaration ---- */
 
 /*
- * Boots a machine of `frames` frames from physical frame `base`, with blocks of 2^order frames, and
- * declares the text's regions in turn as if every frame were free. The record given is ignored. All
- * three tables become zero, spare bitmap words too, and unused area records are zero.
+ * Boots a machine of `frames` frames from physical frame `base`, with blocks of 2^block_order
+ * frames, and declares the text's regions in turn as if every frame were free. The record given is
+ * ignored. All three tables become zero, spare bitmap words too, and unused area records are zero.
  *
  * A region is NAME=SIZE, then optionally @START, /ALIGNMENT and :ff, in that order; ';' stands
  * between regions, as in "camera=64K@32768;signer=1M". A nonzero start is fixed. Empty text is no
  * regions.
  *
  * Refused, with a place:
- *   SZK_WRONG_SHAPE (place 0) if base, frames, order or the length of marks or words is wrong;
+ *   SZK_WRONG_SHAPE (place 0) if base, frames, block_order or the length of marks or words is wrong;
  *   SZK_TEXT_TOO_LONG (place 1,024);
  *   SZK_UNEXPECTED_BYTE, SZK_BAD_AMOUNT, SZK_NAME_REPEATED, SZK_TOO_MANY_REGIONS or
  *     SZK_UNKNOWN_ALLOCATOR, whichever comes first from left to right, at its offset in the text;
@@ -135,12 +135,12 @@ extern "C" {
 void szk_boot(uint64_t *record, size_t record_length, uint32_t *marks, size_t marks_length,
               uint64_t *words, size_t words_length, uint64_t *bitmap, size_t bitmap_length,
               uint64_t *answer, size_t answer_length,
-              uint64_t base, uint64_t frames, uint64_t order,
+              uint64_t base, uint64_t frames, uint64_t block_order,
               const uint8_t *text, size_t text_length);
 
 /*
- * Declares an area. The first four numbers are bytes; a bit of the area's bitmap stands for 2^order
- * frames. With A = max(alignment, 4,096 x 2^b), base and size round up to A and limit rounds down.
+ * Declares an area. The first four numbers are bytes; a bit of the area's bitmap stands for
+ * 2^order_per_bit frames. With A = max(alignment, 4,096 x 2^b), base and size round up to A and limit rounds down.
  * Base 0 then cancels fixed. A limit that is now 0, or past the end of memory, becomes the end.
  *
  * With `fixed` not 0 the area begins at base, and limit isn't consulted. Otherwise it takes the
@@ -152,7 +152,7 @@ void szk_boot(uint64_t *record, size_t record_length, uint32_t *marks, size_t ma
  *   SZK_AREAS_FULL;
  *   SZK_OUT_OF_RANGE if an amount passes 2^48, size is 0, or alignment is neither 0 nor a power of
  *     two;
- *   SZK_BIT_ABOVE_BLOCK if order is above b;
+ *   SZK_BIT_ABOVE_BLOCK if order_per_bit is above b;
  *   SZK_BITMAP_TOO_SHORT;
  *   fixed: SZK_NO_PLACE if outside memory, SZK_RANGE_NOT_FREE if some frame is not free or is in an
  *     area; otherwise: SZK_NO_PLACE if there is no such multiple.
@@ -161,7 +161,7 @@ void szk_declare(uint64_t *record, size_t record_length, uint32_t *marks, size_t
                  uint64_t *words, size_t words_length, uint64_t *bitmap, size_t bitmap_length,
                  uint64_t *answer, size_t answer_length,
                  uint64_t base, uint64_t size, uint64_t limit, uint64_t alignment,
-                 uint64_t order, uint64_t fixed);
+                 uint64_t order_per_bit, uint64_t fixed);
 
 /* ---- page calls ---- */
 
@@ -235,20 +235,20 @@ void szk_read(uint64_t *record, size_t record_length, uint32_t *marks, size_t ma
 
 /*
  * Grants `count` contiguous frames of an area. A candidate starts on a bit, its physical frame is a
- * multiple of 2^order, its ceil(count / 2^k) bits lie in the area and are clear. It is grantable
+ * multiple of 2^align, its ceil(count / 2^k) bits lie in the area and are clear. It is grantable
  * when each of its count frames is free or movable. The lowest grantable candidate is taken. Its
  * movable pages, ascending, go to the lowest free ordinary frames, ascending, with mark and word.
  * Then the first mark is 8 x count + 4, the others 5, the words 0, the bits set. Frames after the
  * count in the last bit stay usable by movable pages. Answers frame, number of pages moved.
  *
- * Refused: SZK_WRONG_SHAPE; SZK_OUT_OF_RANGE for an unknown area, count 0 or order above 16;
+ * Refused: SZK_WRONG_SHAPE; SZK_OUT_OF_RANGE for an unknown area, count 0 or align above 16;
  * SZK_NO_RUN if there is no grantable candidate; SZK_NO_TARGET if the lowest one's movable pages
  * outnumber the free ordinary frames (no later candidate is tried).
  */
 void szk_grant(uint64_t *record, size_t record_length, uint32_t *marks, size_t marks_length,
                uint64_t *words, size_t words_length, uint64_t *bitmap, size_t bitmap_length,
                uint64_t *answer, size_t answer_length,
-               uint64_t area, uint64_t count, uint64_t order);
+               uint64_t area, uint64_t count, uint64_t align);
 
 /*
  * Releases the grant of `count` frames from physical frame `frame`: the frames' marks and words

@@ -44,8 +44,8 @@ macro_rules! calls {
 }
 
 calls! {
-    boot is szk_boot(base, frames, order; text);
-    declare is szk_declare(base, size, limit, alignment, order, fixed);
+    boot is szk_boot(base, frames, block_order; text);
+    declare is szk_declare(base, size, limit, alignment, order_per_bit, fixed);
     put_movable is szk_put_movable(name);
     put_fixed is szk_put_fixed(name);
     drop is szk_drop(name);
@@ -53,7 +53,7 @@ calls! {
     unpin is szk_unpin(name);
     store is szk_store(name, word);
     read is szk_read(name);
-    grant is szk_grant(area, count, order);
+    grant is szk_grant(area, count, align);
     release is szk_release(area, frame, count);
     device_store is szk_device_store(frame, word);
     device_read is szk_device_read(frame);

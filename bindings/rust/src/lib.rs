@@ -33,7 +33,7 @@ pub struct Request {
     pub size: u64,
     pub limit: u64,
     pub alignment: u64,
-    pub order: u64,
+    pub order_per_bit: u64,
     pub fixed: bool,
 }
 
@@ -42,7 +42,7 @@ pub struct Request {
 pub struct Area {
     pub base: u64,
     pub count: u64,
-    pub order: u64,
+    pub order_per_bit: u64,
 }
 
 /// The machine record, as the numbers that the library reads and writes.
@@ -52,7 +52,7 @@ pub struct Machine {
 }
 
 impl Machine {
-    /// Numbers of a record: the base, the frames, the order, the areas declared, and three for each of eight areas.
+    /// Numbers of a record: the base, the frames, the order, the areas declared, and three for each area.
     pub const NUMBERS: usize = 28;
 
     /// A fresh record is all zeros; every call but boot refuses it.
@@ -70,8 +70,8 @@ impl Machine {
         self.numbers[1]
     }
 
-    /// The block order: a block is 2^order frames.
-    pub fn order(&self) -> u64 {
+    /// The block order b: a block is 2^b frames.
+    pub fn block_order(&self) -> u64 {
         self.numbers[2]
     }
 
@@ -86,7 +86,7 @@ impl Machine {
         std::array::from_fn(|i| Area {
             base: self.numbers[at(i)],
             count: self.numbers[at(i) + 1],
-            order: self.numbers[at(i) + 2],
+            order_per_bit: self.numbers[at(i) + 2],
         })
     }
 
@@ -105,13 +105,13 @@ impl Machine {
     }
 
     /// Boots a machine whose areas the regions text declares, whatever the record and the tables held.
-    pub fn boot(&mut self, t: &mut Tables, base: u64, frames: u64, order: u64, text: &[u8]) -> Answer {
-        self.call(t, |lent| lent::boot(lent, base, frames, order, text))
+    pub fn boot(&mut self, t: &mut Tables, base: u64, frames: u64, block_order: u64, text: &[u8]) -> Answer {
+        self.call(t, |lent| lent::boot(lent, base, frames, block_order, text))
     }
 
     /// Declares an area. Answers its first frame and its count.
     pub fn declare(&mut self, t: &mut Tables, r: &Request) -> Answer {
-        self.call(t, |lent| lent::declare(lent, r.base, r.size, r.limit, r.alignment, r.order, u64::from(r.fixed)))
+        self.call(t, |lent| lent::declare(lent, r.base, r.size, r.limit, r.alignment, r.order_per_bit, u64::from(r.fixed)))
     }
 
     /// Puts a movable page. Answers its frame and 0.
@@ -149,9 +149,9 @@ impl Machine {
         self.call(t, |lent| lent::read(lent, name))
     }
 
-    /// Grants `count` frames of an area, the first a multiple of 2^order. Answers the first frame and the number of pages moved.
-    pub fn grant(&mut self, t: &mut Tables, area: u64, count: u64, order: u64) -> Answer {
-        self.call(t, |lent| lent::grant(lent, area, count, order))
+    /// Grants `count` frames of an area, the first a multiple of 2^align. Answers the first frame and the number of pages moved.
+    pub fn grant(&mut self, t: &mut Tables, area: u64, count: u64, align: u64) -> Answer {
+        self.call(t, |lent| lent::grant(lent, area, count, align))
     }
 
     /// Releases a grant.

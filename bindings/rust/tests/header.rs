@@ -24,7 +24,7 @@ fn defines() -> BTreeMap<String, u64> {
 /// Each `pub const NAME: u64 = NUMBER;`.
 fn constants(path: &str) -> Vec<(String, u64)> {
     let constant = |line: &str| {
-        let (name, number) = line.strip_prefix("pub const ")?.strip_suffix(';')?.split_once(": u64 = ")?;
+        let (name, number) = line.trim_start().strip_prefix("pub const ")?.strip_suffix(';')?.split_once(": u64 = ")?;
         Some((name.to_string(), number.parse().ok()?))
     };
     file(path).lines().filter_map(constant).collect()
@@ -45,6 +45,17 @@ fn refusals_have_the_same_names_and_numbers() {
 }
 
 #[test]
+fn limits_are_those_of_the_record() {
+    // The limits are associated constants of the record's own type; a constant given by another's name is not read here.
+    let limits = constants("crates/rules/src/lib.rt");
+    assert_eq!(limits.len(), 10);
+    let header = defines();
+    for (name, number) in limits {
+        assert_eq!(header.get(&name), Some(&number), "{name}");
+    }
+}
+
+#[test]
 fn limits_kinds_and_lengths_are_the_same() {
     let expected = [
         ("PAGE_BYTES", PAGE),
@@ -52,11 +63,11 @@ fn limits_kinds_and_lengths_are_the_same() {
         ("MOST_FRAMES", Machine::MAX_FRAMES),
         ("LEAST_BASE", 1),
         ("MOST_END", Machine::MAX_END),
-        ("MOST_ORDER", Machine::MAX_BLOCK_ORDER),
+        ("MOST_BLOCK_ORDER", Machine::MAX_BLOCK_ORDER),
         ("MOST_AREAS", Machine::MAX_AREAS),
         ("LEAST_NAME", 1),
         ("MOST_NAME", Machine::MAX_NAME),
-        ("MOST_ALIGNMENT_ORDER", Machine::MAX_ALIGN_ORDER),
+        ("MOST_ALIGN_ORDER", Machine::MAX_ALIGN_ORDER),
         ("MOST_BYTES", Machine::MAX_AMOUNT),
         ("MOST_TEXT", 1024),
         ("FREE", kind::FREE.into()),

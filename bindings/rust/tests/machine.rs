@@ -27,9 +27,9 @@ fn a_fresh_record_is_refused() {
 
 #[test]
 fn a_text_and_a_request_declare_the_same_area() {
-    let area = Area { base: 8, count: 16, order: 0 };
+    let area = Area { base: 8, count: 16, order_per_bit: 0 };
     booted(b"camera=64K@32768", |machine, t| {
-        assert_eq!((machine.base(), machine.frames(), machine.order(), machine.declared()), (4, 32, 2, 1));
+        assert_eq!((machine.base(), machine.frames(), machine.block_order(), machine.declared()), (4, 32, 2, 1));
         assert_eq!(machine.areas()[0], area);
         assert_eq!(t.marks, [0; 32]);
     });

@@ -2,13 +2,12 @@
 --     word-kept        a word that no bit of the run stands in is as it was, whatever is done to the bits
 --     run-changed      a bit of the run, within the words, becomes v: 1 for setBits, 0 for clearBits
 --     bit-kept         a bit of any word that is no bit of the run is as it was
---     run-below        words below 2 ^ 64 stay so
 -- In the terms of isClear, of this bitmap or of another that shares the words (f and v by `setting` or `clearing`):
 --     set-not-clear, cleared-clear    the run's bits
---     clear-outside, clear-apart, clear-kept    the other bits: of this bitmap; of another one's words; of any that the run is not
+--     clear-outside, clear-kept    the other bits: of this bitmap; of any that the run is not
 -- The run's length of words is `change-length`, in Runs. Of a word elsewhere or a bit elsewhere, omega shows NoWord and NoBit from bounds:
 -- `λ k a b e. omega arith`.
-use Prim.Native.Nat.{ℕ, zero, suc, _+_, _/_, _%_, _^_, _≤_, _<_}
+use Prim.Native.Nat.{ℕ, zero, suc, _+_, _/_, _%_, _≤_, _<_}
 use native.Mathlib.Omega.{arith}
 use mathlib.Core.Path.{_≡_, refl, sym, ap, _∙_}
 use mathlib.Core.Bool.{true, false}
@@ -19,7 +18,7 @@ use lib.Seq.{set-out, getD-set-same, getD-set-other}
 use borrow.Author.Tests.{eqb-true, eqb-false}
 use Rattle.search.proofs.Bools.{by-cases, below-or-not}
 use Rattle.bitmap.specs.Bits.{bitOf, clearIn, isClear, changeBit, changeBits, setBits, clearBits}
-use Rattle.bitmap.proofs.Word.{Change, setting, clearing, bit-here, bit-other, change-below}
+use Rattle.bitmap.proofs.Word.{Change, setting, clearing, bit-here, bit-other}
 use Rattle.bitmap.proofs.Runs.{one-length, change-length, clear-out}
 
 -- no bit of the run stands in word i; none is bit t of word i
@@ -77,13 +76,6 @@ module _ {f : ℕ → ℕ → ℕ} {v : ℕ} (ch : Change f v) where
       rw (← same)
       (bit-kept next st (suc j) d (st + j / 64) (j % 64) (λ i u x e q. omega arith) ∙ one-changed ws st j (omega arith)))
 
-  pub run-below : (ws : List ℕ) (st j d : ℕ) → ((i : ℕ) → getD ws i 0 < 2 ^ 64) → (i : ℕ) → getD (changeBits f ws st j d) i 0 < 2 ^ 64
-  unfolding changeBits
-  run-below ws st j zero small = small
-  run-below ws st j (suc d) small =
-      run-below (changeBit f ws st j) st (suc j) d
-      (λ i. one-word (λ (x : ℕ). x < 2 ^ 64) ws st j i (small i) (λ e. change-below ch 64 (getD ws i 0) (j % 64) (omega arith) (small i)))
-
 -- ---- in the terms of isClear
 module _ (ws : List ℕ) (st j d : ℕ) where
   pub set-not-clear : (k : ℕ) → j ≤ k → k < j + d → st + k / 64 < length ws → isClear (setBits ws st j d) st k ≡ false
@@ -105,8 +97,3 @@ module _ (ws : List ℕ) (st j d : ℕ) where
     -- a bit of this bitmap outside the run
     pub clear-outside : (k : ℕ) → (j ≤ k → k < j + d → ⊥) → isClear (changeBits f ws st j d) st k ≡ isClear ws st k
     clear-outside k away = clear-kept st k (λ i a b e q. away (omega arith) (omega arith))
-
-  -- a bit of a word apart from the run's, whatever is done to the run
-  pub clear-apart : (f : ℕ → ℕ → ℕ) (st' k : ℕ) → NoWord st j d (st' + k / 64) → isClear (changeBits f ws st j d) st' k ≡ isClear ws st' k
-  unfolding isClear
-  clear-apart f st' k away = ap (λ (x : ℕ). eqb (bitOf x (k % 64)) 0) (word-kept f ws st j d (st' + k / 64) away)

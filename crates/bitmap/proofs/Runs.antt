@@ -20,7 +20,7 @@ use Rattle.search.specs.Search.{every}
 use Rattle.search.proofs.Bools.{by-cases, below-or-not, clash, and-false-right}
 use Rattle.search.proofs.Ranges.{all-every, every-none, every-next, every-part}
 use Rattle.bitmap.specs.Bits.{bitOf, isClear, changeBit, changeBits}
-use Rattle.bitmap.specs.Words.{bitsOf, changeIn}
+use Rattle.bitmap.specs.steps.Words.{bitsOf, changeIn}
 use Rattle.bitmap.proofs.Word.{bits-next}
 use Rattle.bitmap.proofs.Each.{every-move, every-skip}
 

@@ -15,7 +15,7 @@ use lib.Bits.{bitOr, or-add-and, and-high}
 use lib.Pow.{pow-pos, pow-mono, pow-add, split, high, low, field, mod-mod-pow, mod-pow-add, shr-shr, shr-lt, shl-shr}
 use Rattle.search.proofs.Bools.{below-or-not}
 use Rattle.bitmap.specs.Bits.{bitOf, setIn, clearIn}
-use Rattle.bitmap.specs.Words.{bitsOf, changeIn}
+use Rattle.bitmap.specs.steps.Words.{bitsOf, changeIn}
 
 pub bit-lt : (w s : ℕ) → bitOf w s < 2
 bit-lt w s = mod-lt (w / 2 ^ s) (omega arith)

@@ -5,7 +5,7 @@ ghost use Prim.Native.Nat.{_+_, _-_, _*_, _/_, _^_, _≤_, _<_, min};
 ghost use mathlib.Core.Path.{_≡_};
 ghost use Rattle.search.specs.Search.{every};
 ghost use Rattle.bitmap.specs.Bits.{isClear, changeBits, setBits, clearBits};
-ghost use Rattle.bitmap.specs.Words.{bitsOf, changeIn, putIn};
+ghost use Rattle.bitmap.specs.steps.Words.{bitsOf, changeIn, putIn};
 
 // Ones at the `count` bits from bit `low` on, which lie in a word.
 fn mask(low: usize, count: usize) -> u64

@@ -4,9 +4,9 @@
 // cases.txt. Those in cuts.txt are played at every length, from no byte to all of them, and their outputs stand one after the other. Those
 // in texts.txt have regions texts in NAME.txt, one a line.
 ghost use mathlib.Core.Path.{_≡_};
-ghost use Prim.Native.Nat.{_+_, _≤_};
+ghost use Prim.Native.Nat.{_+_, _-_, _≤_};
 ghost use lib.ListN.{length};
-ghost use Rattle.cases.specs.Tallies.{Counted};
+ghost use Rattle.cases.specs.steps.Tallies.{mostFile, Counted};
 
 mod texts;
 
@@ -16,6 +16,10 @@ use playback::Progress;
 use playback::Stop;
 use playback::held;
 use records::lines;
+use text::writing::put_bytes;
+
+// A file that fills a buffer of so many bytes is not read to its end.
+const MOST_FILE: usize = 65536;
 
 // How a case is played: its records whole, or at every length; or its regions texts, one by one.
 enum Way {
@@ -48,8 +52,8 @@ fn load_part(name: &[u8], ending: &[u8], buffer: &mut [u8]) -> usize
     ensures { λ r. ⌜ r ≤ length (now (buffer .entry)) ⌝ }
 {
     let mut path = [0u8; 64];
-    let named = lines::put_bytes(&mut path, 0, name);
-    let whole = lines::put_bytes(&mut path, named, ending);
+    let named = put_bytes(&mut path, 0, name);
+    let whole = put_bytes(&mut path, named, ending);
     load(&path[0..whole], buffer)
 }
 
@@ -174,15 +178,15 @@ fn unreadable(name: &[u8]) -> bool {
 
 // One case.
 fn run_case(name: &[u8], way: Way) -> bool {
-    let mut bytes = [0u8; 65536];
-    let mut expected = [0u8; 65536];
-    let mut out = [0u8; 65536];
+    let mut bytes = [0u8; MOST_FILE];
+    let mut expected = [0u8; MOST_FILE];
+    let mut out = [0u8; MOST_FILE];
     let size = load_given(name, way, &mut bytes);
-    if 65536 <= size {
+    if MOST_FILE <= size {
         return unreadable(name);
     }
     let length = load_part(name, b".out", &mut expected);
-    if 65536 <= length {
+    if MOST_FILE <= length {
         return unreadable(name);
     }
     let text = play_case(&bytes[0..size], way, &mut out);
@@ -206,7 +210,7 @@ fn line_end(list: &[u8], at: usize) -> usize
 
 // One case more.
 fn counted(t: Tally, passed: bool) -> Tally
-    requires { ⌜ Counted 65535 t ⌝ }
+    requires { ⌜ Counted (mostFile - 1) t ⌝ }
     ensures { λ r. ⌜ (r .cases ≡ t .cases + 1) × (r .failed ≤ t .failed + 1) ⌝ }
 {
     if passed {
@@ -223,8 +227,8 @@ fn counted(t: Tally, passed: bool) -> Tally
 
 // The cases that a list names.
 fn run_names(list: &[u8], way: Way) -> Tally
-    requires { ⌜ length (now list) ≤ 65536 ⌝ }
-    ensures { λ r. ⌜ Counted 65536 r ⌝ }
+    requires { ⌜ length (now list) ≤ mostFile ⌝ }
+    ensures { λ r. ⌜ Counted mostFile r ⌝ }
 {
     let mut t = Tally {
         cases: 0,
@@ -241,11 +245,11 @@ fn run_names(list: &[u8], way: Way) -> Tally
 
 // The cases of the list in a file. A list that cannot be read counts as a case that failed.
 fn run_list(path: &[u8], way: Way) -> Tally
-    ensures { λ r. ⌜ Counted 65536 r ⌝ }
+    ensures { λ r. ⌜ Counted mostFile r ⌝ }
 {
-    let mut list = [0u8; 65536];
+    let mut list = [0u8; MOST_FILE];
     let size = load(path, &mut list);
-    if 65536 <= size {
+    if MOST_FILE <= size {
         unreadable(path);
         return Tally {
             cases: 1,

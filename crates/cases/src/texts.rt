@@ -1,22 +1,25 @@
 // Regions texts, one a line: what reading each gives, what a boot of machine A with it answers, and the areas that the machine then has.
 ghost use Prim.Native.Nat.{_≤_};
 ghost use lib.ListN.{length};
+ghost use Rattle.regions.specs.Text.{mostRegions};
 use crate::line_end;
-use frames::Area;
 use frames::Frame;
+use frames::area_at;
 use machine::Machine;
 use playback::held;
-use records::lines;
+use regions::MOST_REGIONS;
 use regions::Region;
 use regions::Regions;
+use text::writing::put_bytes;
+use text::writing::put_number;
 
 // A number after a space.
 fn put_next(out: &mut [u8], at: usize, value: u64) -> usize
     requires { ⌜ at ≤ length (now out) ⌝ }
     ensures { λ r. ⌜ r ≤ length (now (out .entry)) ⌝ }
 {
-    let spaced = lines::put_bytes(out, at, b" ");
-    lines::put_number(out, spaced, value)
+    let spaced = put_bytes(out, at, b" ");
+    put_number(out, spaced, value)
 }
 
 // A word and three numbers.
@@ -24,28 +27,28 @@ fn put_three(out: &mut [u8], at: usize, word: &[u8], a: u64, b: u64, c: u64) -> 
     requires { ⌜ at ≤ length (now out) ⌝ }
     ensures { λ r. ⌜ r ≤ length (now (out .entry)) ⌝ }
 {
-    let named = lines::put_bytes(out, at, word);
+    let named = put_bytes(out, at, word);
     let one = put_next(out, named, a);
     let two = put_next(out, one, b);
     put_next(out, two, c)
 }
 
-// The number, and 8 where it is more: no list here has more entries.
-fn at_most_eight(n: u64) -> usize
-    ensures { λ r. ⌜ r ≤ 8 ⌝ }
+// How many of a text's regions to read from their list: no text gives more than it holds.
+fn listed(count: usize) -> usize
+    ensures { λ r. ⌜ r ≤ mostRegions ⌝ }
 {
-    if n < 8 {
-        return n as usize;
+    if count < MOST_REGIONS {
+        return count;
     }
-    8
+    MOST_REGIONS
 }
 
 // The amounts of each region.
-fn put_regions(out: &mut [u8], at: usize, list: [Region; 8], count: u64) -> usize
+fn put_regions(out: &mut [u8], at: usize, list: [Region; MOST_REGIONS], count: usize) -> usize
     requires { ⌜ at ≤ length (now out) ⌝ }
     ensures { λ r. ⌜ r ≤ length (now (out .entry)) ⌝ }
 {
-    let last = at_most_eight(count);
+    let last = listed(count);
     let mut text = at;
     let mut i = 0;
     while i < last {
@@ -63,17 +66,24 @@ fn put_regions(out: &mut [u8], at: usize, list: [Region; 8], count: u64) -> usiz
     text
 }
 
-// The first frame, the count and the order of each area.
-fn put_areas(out: &mut [u8], at: usize, areas: [Area; 8], declared: u64) -> usize
+// The first frame, the count and the order of pages per bit of each area that is in use.
+fn put_areas(out: &mut [u8], at: usize, areas: &[u64], declared: u64) -> usize
     requires { ⌜ at ≤ length (now out) ⌝ }
     ensures { λ r. ⌜ r ≤ length (now (out .entry)) ⌝ }
 {
-    let last = at_most_eight(declared);
+    let last = declared as usize;
     let mut text = at;
     let mut i = 0;
     while i < last {
-        let area = areas[i];
-        text = put_three(out, text, b" area", area.base.0, area.count, area.order);
+        let area = area_at(areas, i);
+        text = put_three(
+            out,
+            text,
+            b" area",
+            area.base.0,
+            area.count,
+            area.order_per_bit,
+        );
         i += 1;
     }
     text
@@ -86,7 +96,7 @@ fn put_read(out: &mut [u8], at: usize, r: Regions) -> usize
 {
     let told = put_three(out, at, b"read", r.refusal, r.place as u64, r.count as u64);
     let list = r.list;
-    put_regions(out, told, list, r.count as u64)
+    put_regions(out, told, list, r.count)
 }
 
 // What a boot with a text answers, and the areas that the machine then has.
@@ -104,10 +114,8 @@ fn put_boot(
     let returned = Machine::fresh().boot(marks, words, bitmap, Frame(4), 32, 2, text);
     let a = returned.answer;
     let told = put_three(out, at, b" boot", a.refusal, a.first, a.second);
-    let machine = returned.machine;
-    let memory = machine.memory;
-    let areas = memory.areas;
-    put_areas(out, told, areas, memory.declared)
+    let record = returned.machine.record;
+    put_areas(out, told, &record.areas, record.memory.declared)
 }
 
 // A line for a text.
@@ -124,7 +132,7 @@ fn put_text(
 {
     let read = put_read(out, at, regions::read_regions(text));
     let booted = put_boot(out, read, marks, words, bitmap, text);
-    lines::put_bytes(out, booted, b"\n")
+    put_bytes(out, booted, b"\n")
 }
 
 // A line for each text, and how long they are together. The tables are not cleared in between: a boot zeroes them.

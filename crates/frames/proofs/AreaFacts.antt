@@ -7,7 +7,7 @@ use mathlib.Core.Path.{_≡_, refl, sym, ap, _∙_}
 use mathlib.Core.Bool.{true, false}
 use mathlib.Core.List.{List}
 use lib.Dec.{leb, ltb}
-use lib.ListN.{length, List·getD-eq-default}
+use lib.ListN.{length}
 use lib.Pow.{shl-exact}
 use borrow.Author.Tests.{lt-ltb, le-ltb, le-leb, lt-leb, leb-true, ltb-true}
 use Rattle.search.specs.Search.{lowest}
@@ -17,8 +17,9 @@ use Rattle.search.proofs.Ranges.{some-hit, none-some, some-no}
 use Rattle.frames.specs.declared.Area.{Area}
 use Rattle.frames.specs.declared.Frame.{Frame}
 use Rattle.frames.specs.Units.{frame}
-use Rattle.frames.specs.Runs.{holderOf, PastArea}
-use Rattle.frames.specs.Areas.{ceiling, holdsFrame, endOf, areaIn, noArea, inAreas, wordCount, firstWord}
+use Rattle.frames.specs.steps.Runs.{inUse, holderOf, PastArea}
+use Rattle.frames.specs.Areas.{ceiling, holdsFrame, endOf, areaNumbers, areaIn, noArea, inAreas, wordCount, firstWord}
+use Rattle.frames.proofs.AreaNumbers.{area-past}
 
 -- ---- one area
 module _ (a : Area) (f : ℕ) where
@@ -51,8 +52,8 @@ still-out a base at p h near e =
     below-or-not at (a .base .0 - base) (λ w. holds-below a (base + p) (omega (arith, near w)))
     (λ w. holds-above a (base + p) (omega (arith, holds-not a (base + at) (omega arith) e)))
 
--- ---- the first n areas of a list
-module _ (areas : List Area) (n : ℕ) (f : Frame) where
+-- ---- the first n areas of a record's numbers
+module _ (areas : List ℕ) (n : ℕ) (f : Frame) where
   pub in-area : (i : ℕ) → i < n → holdsFrame (areaIn areas i) f ≡ true → inAreas areas n f ≡ true
   unfolding inAreas
   in-area i h e = some-hit (λ i. holdsFrame (areaIn areas i) f) 0 n i (omega arith) (omega arith) e
@@ -61,21 +62,21 @@ module _ (areas : List Area) (n : ℕ) (f : Frame) where
   unfolding inAreas
   out-of-area e i h = some-no (λ i. holdsFrame (areaIn areas i) f) 0 n e i (omega arith) (omega arith)
 
-  -- past the eighth there is none
-  pub out-of-areas : length areas ≡ 8 → ((i : ℕ) → i < min n 8 → holdsFrame (areaIn areas i) f ≡ false) → inAreas areas n f ≡ false
+  -- past the end of the numbers there is none
+  pub out-of-areas : ((i : ℕ) → i < inUse areas n → holdsFrame (areaIn areas i) f ≡ false) → inAreas areas n f ≡ false
   unfolding inAreas
-  out-of-areas e none =
+  out-of-areas none =
       none-some (λ i. holdsFrame (areaIn areas i) f) 0 n
       (λ i a b.
-      below-or-not i 8 (λ h. none i (omega arith))
-      (λ h. rw (List·getD-eq-default areas noArea {n = i} (omega arith)) (holds-above noArea (f .0) (omega arith))))
+      below-or-not i (inUse areas n) (none i)
+      (λ h. ap (λ (a : Area). holdsFrame a f) (area-past areas i (omega arith)) ∙ holds-above noArea (f .0) (omega arith)))
 
   -- so a search of the areas tells whether one holds the frame
-  pub no-area : length areas ≡ 8 → min n 8 ≤ lowest (holderOf areas f) (min n 8) → inAreas areas n f ≡ false
-  no-area e h = out-of-areas e (λ i l. found-low (holderOf areas f) (min n 8) i (omega arith))
+  pub no-area : inUse areas n ≤ lowest (holderOf areas f) (inUse areas n) → inAreas areas n f ≡ false
+  no-area h = out-of-areas (λ i l. found-low (holderOf areas f) (inUse areas n) i (omega arith))
 
 -- an area that holds a place holds each from there up to its end
-pub past-held : (base : Frame) (areas : List Area) (n at len i r : ℕ) → i < n → at < len → holderOf areas (frame (base .0 + at)) i ≡ true → r ≡ min (endOf (areaIn areas i) - base .0) len → PastArea base areas n at len r
+pub past-held : (base : Frame) (areas : List ℕ) (n at len i r : ℕ) → i < n → at < len → holderOf areas (frame (base .0 + at)) i ≡ true → r ≡ min (endOf (areaIn areas i) - base .0) len → PastArea base areas n at len r
 past-held base areas n at len i r h l e q =
     let a = areaIn areas i in
     let first = holds-first a (base .0 + at) e in
@@ -125,7 +126,7 @@ pub one-shl : (k : ℕ) → k < 64 → 1 * 2 ^ k % 2 ^ 64 ≡ 2 ^ k
 one-shl k h = shl-exact 1 k 64 (omega arith) (omega arith) ∙ one-mul (2 ^ k)
 
 -- ---- the first bitmap word of an area
-module _ (areas : List Area) where
+module _ (areas : List ℕ) where
   pub first-word-zero : firstWord areas 0 ≡ 0
   unfolding firstWord
   first-word-zero = refl
@@ -137,20 +138,19 @@ module _ (areas : List Area) where
   pub first-word-next : (k : ℕ) → firstWord areas (k + 1) ≡ firstWord areas k + wordCount (areaIn areas k)
   first-word-next k = rw add-one (first-word-suc k)
 
-  -- past the eighth there is none, and so no word
-  first-word-past : length areas ≡ 8 → (d : ℕ) → firstWord areas (8 + d) ≡ firstWord areas 8
-  first-word-past e zero = refl
-  first-word-past e (suc d) =
-      let s : 8 + suc d ≡ suc (8 + d) = omega arith in
-      let none : areaIn areas (8 + d) ≡ noArea = List·getD-eq-default areas noArea (omega arith) in
+  -- past the end of the numbers there is none, and so no word
+  first-word-past : (k d : ℕ) → length areas ≤ areaNumbers * k → firstWord areas (k + d) ≡ firstWord areas k
+  first-word-past k zero h = ap (firstWord areas) (omega arith)
+  first-word-past k (suc d) h =
+      let s : k + suc d ≡ suc (k + d) = omega arith in
       ap (firstWord areas) s ∙
-      first-word-suc (8 + d) ∙
-      ap (λ (a : Area). firstWord areas (8 + d) + wordCount a) none ∙ omega (arith, first-word-past e d)
+      first-word-suc (k + d) ∙
+      ap (λ (a : Area). firstWord areas (k + d) + wordCount a) (area-past areas (k + d) (omega arith)) ∙ omega (arith, first-word-past k d h)
 
-  pub first-word-clip : length areas ≡ 8 → (i k : ℕ) → k ≡ min i 8 → firstWord areas k ≡ firstWord areas i
-  first-word-clip e i k h =
-      below-or-not i 8 (λ w. ap (firstWord areas) (omega arith))
+  pub first-word-clip : (i k : ℕ) → k ≡ inUse areas i → firstWord areas k ≡ firstWord areas i
+  first-word-clip i k h =
+      below-or-not k i
       (λ w.
-      let a : k ≡ 8 = omega arith in
-      let b : 8 + (i - 8) ≡ i = omega arith in
-      ap (firstWord areas) a ∙ sym (first-word-past e (i - 8)) ∙ ap (firstWord areas) b)
+      let e : k + (i - k) ≡ i = omega arith in
+      sym (first-word-past k (i - k) (omega arith)) ∙ ap (firstWord areas) e)
+      (λ w. ap (firstWord areas) (omega arith))

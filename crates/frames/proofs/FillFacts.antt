@@ -1,7 +1,7 @@
 -- The laws of `fill`: the d entries from i on become v, and what lies past the end is left out. Assumes nothing.
 --     length-fill                        the length stays
 --     getD-fill-in, -below, -above       an entry of the range is v; one before it or after it stays
---     fill-none, fill-out, fill-clip     nothing to fill; a range past the end; a range is cut at the end
+--     fill-none, fill-out                nothing to fill; a range past the end
 --     fill-next                          a loop at i that goes up to n
 use Prim.Native.Nat.{ℕ, zero, suc, _+_, _-_, _≤_, _<_, min}
 use native.Mathlib.Nat.{le-refl}
@@ -54,17 +54,6 @@ module _ (v : ℕ) where
       let e : k ≡ i = omega arith in
       getD-fill-below (set l i v) (suc i) d k (omega arith) ∙
       ap (λ (m : ℕ). getD (set l i v) m 0) e ∙ getD-set-same l i v 0 (omega arith))
-
-  pub fill-clip : (l : List ℕ) (i d : ℕ) → length l ≤ i + d → fill l i d v ≡ fill l i (length l - i) v
-  fill-clip l i zero h = fill-none l i ∙ sym (fill-out l i (length l - i) (omega arith))
-  fill-clip l i (suc d) h =
-      below-or-not i (length l)
-      (λ w.
-      let e : length l - i ≡ suc (length (set l i v) - suc i) = omega (arith, length-set l i v) in
-      fill-suc l i d ∙
-      fill-clip (set l i v) (suc i) d (omega (arith, length-set l i v)) ∙
-      sym (ap (λ (n : ℕ). fill l i n v) e ∙ fill-suc l i (length (set l i v) - suc i)))
-      (λ w. fill-out l i (suc d) w ∙ sym (fill-out l i (length l - i) w))
 
   -- ---- a loop at i that goes up to n
   pub fill-next : (l : List ℕ) (i n : ℕ) → i < n → fill l i (n - i) v ≡ fill (set l i v) (i + 1) (n - (i + 1)) v

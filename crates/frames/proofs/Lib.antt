@@ -1,4 +1,5 @@
 pub mod AreaFacts
+pub mod AreaNumbers
 pub mod FillFacts
 pub mod MarkFacts
 pub mod RunFacts

@@ -12,11 +12,10 @@ use Rattle.search.specs.Search.{lowestFrom, howMany}
 use Rattle.search.proofs.Bools.{by-cases, below-or-not, and-false-right}
 use Rattle.search.proofs.Lowest.{Least, lowest-least}
 use Rattle.search.proofs.Counts.{many-split, many-zero, many-cong}
-use Rattle.frames.specs.declared.Area.{Area}
 use Rattle.frames.specs.declared.Frame.{Frame}
 use Rattle.frames.specs.Marks.{hasKind, free}
 use Rattle.frames.specs.Scans.{marked, inAreasAt, isFreeOrdinary}
-use Rattle.frames.specs.Runs.{OrdinaryRun}
+use Rattle.frames.specs.steps.Runs.{OrdinaryRun}
 use Rattle.frames.proofs.ScanFacts.{Seeking, seek-skip, seek-hit}
 
 -- what is taken off one side of a comparison comes off the other
@@ -25,7 +24,7 @@ leb-less a b c =
     below-or-not (b + c) a (λ h. lt-leb a (b + c) h ∙ sym (lt-leb (a - b) c (omega arith)))
     (λ h. le-leb a (b + c) h ∙ sym (le-leb (a - b) c (omega arith)))
 
-module _ (marks : List ℕ) (base : Frame) (areas : List Area) (n : ℕ) where
+module _ (marks : List ℕ) (base : Frame) (areas : List ℕ) (n : ℕ) where
   pub free-in-area : (k : ℕ) → inAreasAt base areas n k ≡ true → isFreeOrdinary marks base areas n k ≡ false
   unfolding isFreeOrdinary
   free-in-area k e = rw e (and-false-right (marked (hasKind free) marks k))
@@ -34,7 +33,7 @@ module _ (marks : List ℕ) (base : Frame) (areas : List Area) (n : ℕ) where
   unfolding isFreeOrdinary
   free-outside k e = rw e (by-cases (marked (hasKind free) marks k) (λ t. rw t) (λ f. rw f))
 
-module _ (marks : List ℕ) {base : Frame} {areas : List Area} {n at len from end : ℕ} (r : OrdinaryRun base areas n at len from end) where
+module _ (marks : List ℕ) {base : Frame} {areas : List ℕ} {n at len from end : ℕ} (r : OrdinaryRun base areas n at len from end) where
   -- no place of the run before g is free
   none-before : (g : ℕ) → g ≤ end → ((k : ℕ) → from ≤ k → k < g → marked (hasKind free) marks k ≡ false) → (k : ℕ) → at ≤ k → k < g → isFreeOrdinary marks base areas n k ≡ false
   none-before g h none k a b =
@@ -60,9 +59,9 @@ module _ (marks : List ℕ) {base : Frame} {areas : List Area} {n at len from en
       howMany (marked (hasKind free) marks) from (end - from) + howMany (isFreeOrdinary marks base areas n) end (len - end)
   run-count =
       let p = isFreeOrdinary marks base areas n in
-      let e : len - at ≡ (from - at) + ((end - from) + (len - end)) = omega (arith, r .low, r .order, r .high) in
+      let e : len - at ≡ (from - at) + ((end - from) + (len - end)) = omega (arith, r .low, r .ordered, r .high) in
       let f : at + (from - at) ≡ from = omega (arith, r .low) in
-      let g : from + (end - from) ≡ end = omega (arith, r .order) in
+      let g : from + (end - from) ≡ end = omega (arith, r .ordered) in
       let held : howMany p at (from - at) ≡ 0 = many-zero p at (from - at) (λ k a b. free-in-area marks base areas n k (r .held k a (omega arith))) in
       let open-part : howMany p from (end - from) ≡ howMany (marked (hasKind free) marks) from (end - from) =
       many-cong p (marked (hasKind free) marks) from (end - from) (λ k a b. free-outside marks base areas n k (r .clear k a (omega arith))) in

@@ -1,6 +1,7 @@
 pub mod Areas
+pub mod Lent
 pub mod Marks
-pub mod Runs
 pub mod Scans
 pub mod Tables
 pub mod Units
+pub mod steps

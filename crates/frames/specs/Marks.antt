@@ -3,14 +3,18 @@ use Prim.Native.Nat.{ℕ, _+_, _*_, _/_, _%_}
 use mathlib.Core.Bool.{Bool, _&&_, _||_}
 use lib.Dec.{eqb}
 
+-- how many kinds there are
+abbrev pub kinds : ℕ
+kinds = 8
+
 abbrev pub kindOf : ℕ → ℕ
-kindOf mark = mark % 8
+kindOf mark = mark % kinds
 
 abbrev pub fieldOf : ℕ → ℕ
-fieldOf mark = mark / 8
+fieldOf mark = mark / kinds
 
 abbrev pub markOf : ℕ → ℕ → ℕ
-markOf field kind = 8 * field + kind
+markOf field kind = kinds * field + kind
 
 -- the kinds
 abbrev pub free : ℕ

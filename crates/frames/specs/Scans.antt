@@ -4,7 +4,6 @@ use mathlib.Core.Bool.{Bool, not, _&&_}
 use mathlib.Core.List.{List}
 use lib.Dec.{eqb}
 use lib.ListN.{getD}
-use Rattle.frames.specs.declared.Area.{Area}
 use Rattle.frames.specs.declared.Frame.{Frame}
 use Rattle.frames.specs.Units.{frame}
 use Rattle.frames.specs.Marks.{fieldOf, hasKind, free}
@@ -18,9 +17,9 @@ abbrev pub hasField : ℕ → ℕ → Bool
 hasField field mark = eqb (fieldOf mark) field
 
 -- the place is in one of the first n areas, where the table begins at physical frame `base`
-abbrev pub inAreasAt : Frame → List Area → ℕ → ℕ → Bool
+abbrev pub inAreasAt : Frame → List ℕ → ℕ → ℕ → Bool
 inAreasAt base areas n i = inAreas areas n (frame (base .0 + i))
 
 -- a free frame, in none of the first n areas
-unfoldable pub isFreeOrdinary : List ℕ → Frame → List Area → ℕ → ℕ → Bool
+unfoldable pub isFreeOrdinary : List ℕ → Frame → List ℕ → ℕ → ℕ → Bool
 isFreeOrdinary marks base areas n i = marked (hasKind free) marks i && not (inAreasAt base areas n i)

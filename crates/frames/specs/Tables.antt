@@ -3,7 +3,6 @@ use Prim.Native.Nat.{ℕ, zero, suc}
 use mathlib.Core.List.{List}
 use lib.ListN.{getD, set}
 use Rattle.frames.specs.declared.Place.{Place}
-use Rattle.frames.specs.Units.{place}
 
 pub record Tables : Type 0 where
   pub marks : List ℕ

@@ -1,14 +1,17 @@
-// What an area holds, and its share of the bitmap. Frame numbers are compared by their differences: no sum of two of them is made.
+// What an area holds, its share of the bitmap, and the areas of a record, which are lent as numbers, `Area::NUMBERS` for each.
+// Frame numbers are compared by their differences: no sum of two of them is made.
 ghost use Prim.Native.Nat.{_<_, _+_, _-_, min};
 ghost use mathlib.Core.Path.{_≡_};
+ghost use lib.ListN.{getD, set};
 ghost use Rattle.search.specs.Search.{lowest};
-ghost use Rattle.frames.specs.Units.{frame};
-ghost use Rattle.frames.specs.Runs.{holderOf, StartsBy, PastArea, NextArea, OrdinaryRun};
-ghost use Rattle.frames.specs.Areas.{holdsFrame, ceiling, endOf, bitCount, wordCount, firstWord, bitsFor};
+ghost use Rattle.frames.specs.Units.{frame, mostNumber};
+ghost use Rattle.frames.specs.steps.Runs.{inUse, holderOf, StartsBy, PastArea, NextArea, OrdinaryRun};
+ghost use Rattle.frames.specs.Areas.{holdsFrame, ceiling, endOf, bitCount, wordCount, firstWord, bitsFor, areaIn, setArea};
 use crate::Area;
 use crate::Frame;
 use crate::Place;
 use crate::units::place_of;
+use crate::units::sum_or_most;
 
 // x / d rounded up.
 fn ceiling(x: u64, d: u64) -> u64
@@ -26,10 +29,10 @@ impl Area {
     pub fn bits(self) -> u64
         ensures { λ r. ⌜ r ≡ bitCount self ⌝ }
     {
-        if 64 <= self.order {
+        if 64 <= self.order_per_bit {
             return 0;
         }
-        self.count >> self.order
+        self.count >> self.order_per_bit
     }
 
     // The words of its bitmap.
@@ -44,8 +47,8 @@ impl Area {
     pub fn bits_for(self, count: u64) -> u64
         ensures { λ r. ⌜ r ≡ bitsFor self count ⌝ }
     {
-        if self.order < 64 {
-            return ceiling(count, 1u64 << self.order);
+        if self.order_per_bit < 64 {
+            return ceiling(count, 1u64 << self.order_per_bit);
         }
         if count == 0 {
             return 0;
@@ -111,24 +114,80 @@ impl Area {
     }
 }
 
-// How many area records to look at: those past the eighth hold no frame.
-pub(crate) fn in_use(declared: u64) -> usize
-    ensures { λ r. ⌜ r ≡ min declared 8 ⌝ }
+// A number of a record's areas; 0 past their end.
+fn number_at(areas: &[u64], at: usize) -> u64
+    ensures { λ r. ⌜ r ≡ getD (now (areas .entry)) at 0 ⌝ }
 {
-    if 8 <= declared {
-        return 8;
+    if at < areas.len() {
+        return areas[at];
+    }
+    0
+}
+
+// Area i of a record's areas; all zeros past their end.
+pub fn area_at(areas: &[u64], i: usize) -> Area
+    ensures { λ r. ⌜ r ≡ areaIn (now (areas .entry)) i ⌝ }
+{
+    // So far out its place among the numbers might wrap.
+    if areas.len() <= i {
+        return Area {
+            base: Frame(0),
+            count: 0,
+            order_per_bit: 0,
+        };
+    }
+    let at = Area::NUMBERS * i;
+    let base = number_at(areas, at);
+    let count = number_at(areas, at + 1);
+    let order_per_bit = number_at(areas, at + 2);
+    Area {
+        base: Frame(base),
+        count,
+        order_per_bit,
+    }
+}
+
+// A number of a record's areas becomes another; past their end nothing is kept.
+fn set_number(areas: &mut [u64], at: usize, value: u64)
+    ensures { λ r. ⌜ now (areas .exit) ≡ set (now (areas .entry)) at value ⌝ }
+{
+    if at < areas.len() {
+        areas[at] = value;
+    }
+}
+
+// Area i of a record's areas becomes another; past their end nothing is kept.
+pub fn set_area(areas: &mut [u64], i: usize, area: Area)
+    ensures { λ r. ⌜ now (areas .exit) ≡ setArea (now (areas .entry)) i area ⌝ }
+{
+    // So far out its place among the numbers might wrap.
+    if i < areas.len() {
+        let at = Area::NUMBERS * i;
+        set_number(areas, at, area.base.0);
+        set_number(areas, at + 1, area.count);
+        set_number(areas, at + 2, area.order_per_bit);
+    }
+}
+
+// How many areas to look at: those past the end of the numbers hold no frame.
+fn in_use(areas: &[u64], declared: u64) -> usize
+    ensures { λ r. ⌜ r ≡ inUse (now (areas .entry)) declared ⌝ }
+{
+    let room = ceiling(areas.len() as u64, Area::NUMBERS as u64);
+    if room <= declared {
+        return room as usize;
     }
     declared as usize
 }
 
 // The number of the lowest area that holds place `at`; where none does, the number of areas to look at.
-fn area_of(base: Frame, areas: [Area; 8], declared: u64, at: Place) -> usize
-    ensures { λ r. ⌜ r ≡ lowest (holderOf areas (frame (base .0 + at .0))) (min declared 8) ⌝ }
+fn area_of(base: Frame, areas: &[u64], declared: u64, at: Place) -> usize
+    ensures { λ r. ⌜ r ≡ lowest (holderOf (now (areas .entry)) (frame (base .0 + at .0))) (inUse (now (areas .entry)) declared) ⌝ }
 {
-    let end = in_use(declared);
+    let end = in_use(areas, declared);
     let mut k = 0;
     while k < end {
-        let area = areas[k];
+        let area = area_at(areas, k);
         if area.holds(base, at) {
             return k;
         }
@@ -138,28 +197,28 @@ fn area_of(base: Frame, areas: [Area; 8], declared: u64, at: Place) -> usize
 }
 
 // The end of an area that holds place `at`, or `at` itself where it is ordinary; `end` is the place after the tables' last.
-fn past_area(base: Frame, areas: [Area; 8], declared: u64, at: Place, end: Place) -> Place
+fn past_area(base: Frame, areas: &[u64], declared: u64, at: Place, end: Place) -> Place
     requires { ⌜ at .0 < end .0 ⌝ }
-    ensures { λ r. ⌜ PastArea base areas declared (at .0) (end .0) (r .0) ⌝ }
+    ensures { λ r. ⌜ PastArea base (now (areas .entry)) declared (at .0) (end .0) (r .0) ⌝ }
 {
     let k = area_of(base, areas, declared, at);
-    if in_use(declared) <= k {
+    if in_use(areas, declared) <= k {
         return at;
     }
-    let area = areas[k];
+    let area = area_at(areas, k);
     area.end_place(base, end)
 }
 
 // Up to here the places from the ordinary place `at` on are ordinary too: the next first place of an area, or `end`.
-fn next_area(base: Frame, areas: [Area; 8], declared: u64, at: Place, end: Place) -> Place
+fn next_area(base: Frame, areas: &[u64], declared: u64, at: Place, end: Place) -> Place
     requires { ⌜ at .0 < end .0 ⌝ }
-    ensures { λ r. ⌜ NextArea base areas declared (at .0) (end .0) (r .0) ⌝ }
+    ensures { λ r. ⌜ NextArea base (now (areas .entry)) declared (at .0) (end .0) (r .0) ⌝ }
 {
-    let last = in_use(declared);
+    let last = in_use(areas, declared);
     let mut stop = end;
     let mut k = 0;
     while k < last {
-        let area = areas[k];
+        let area = area_at(areas, k);
         stop = area.start_place(base, at, stop);
         k += 1;
     }
@@ -173,15 +232,9 @@ pub(crate) struct Run {
 }
 
 // The next ordinary places from `at` on; none of them, at `end`, where all that is left is in areas.
-pub(crate) fn ordinary_run(
-    base: Frame,
-    areas: [Area; 8],
-    declared: u64,
-    at: Place,
-    end: Place,
-) -> Run
+pub(crate) fn ordinary_run(base: Frame, areas: &[u64], declared: u64, at: Place, end: Place) -> Run
     requires { ⌜ at .0 < end .0 ⌝ }
-    ensures { λ r. ⌜ OrdinaryRun base areas declared (at .0) (end .0) (r .from .0) (r .end .0) ⌝ }
+    ensures { λ r. ⌜ OrdinaryRun base (now (areas .entry)) declared (at .0) (end .0) (r .from .0) (r .end .0) ⌝ }
 {
     let last = end.0;
     let mut i = at.0;
@@ -199,17 +252,17 @@ pub(crate) fn ordinary_run(
     Run { from: end, end }
 }
 
-// The first bitmap word of area i.
-pub fn first_word(areas: [Area; 8], i: u64) -> u64
-    ensures { λ r. ⌜ r ≡ firstWord areas i ⌝ }
+// The first bitmap word of area i; the largest number where it would pass that.
+pub fn first_word(areas: &[u64], i: u64) -> u64
+    ensures { λ r. ⌜ r ≡ min (firstWord (now (areas .entry)) i) mostNumber ⌝ }
 {
-    let end = in_use(i);
+    let end = in_use(areas, i);
     let mut word = 0;
     let mut before = 0;
     while before < end {
-        let area = areas[before];
-        let bits = area.bits();
-        word += ceiling(bits, 64);
+        let area = area_at(areas, before);
+        let words = area.words();
+        word = sum_or_most(word, words);
         before += 1;
     }
     word

@@ -34,18 +34,11 @@ pub fn fill_marks(marks: &mut [u32], from: Place, count: u64, value: u32)
 pub fn fill_words(words: &mut [u64], from: Place, count: u64, value: u64)
     ensures { λ r. ⌜ now (words .exit) ≡ fill (now (words .entry)) (from .0) count value ⌝ }
 {
-    fill_from(words, from.0, count, value);
-}
-
-// The `count` bitmap words from word `from` on become `value`.
-pub fn fill_bitmap(bitmap: &mut [u64], from: usize, count: u64, value: u64)
-    ensures { λ r. ⌜ now (bitmap .exit) ≡ fill (now (bitmap .entry)) from count value ⌝ }
-{
-    fill_from(bitmap, from, count, value);
+    fill_numbers(words, from.0, count, value);
 }
 
 // The `count` numbers of a table from index `from` on become `value`: content words by place, and bitmap words.
-fn fill_from(table: &mut [u64], from: usize, count: u64, value: u64)
+pub fn fill_numbers(table: &mut [u64], from: usize, count: u64, value: u64)
     ensures { λ r. ⌜ now (table .exit) ≡ fill (now (table .entry)) from count value ⌝ }
 {
     let end = range_end(from, count, table.len());

@@ -5,9 +5,11 @@ pub mod kinds;
 mod marks;
 mod units;
 
+pub use areas::area_at;
 pub use areas::first_word;
-pub use fills::fill_bitmap;
+pub use areas::set_area;
 pub use fills::fill_marks;
+pub use fills::fill_numbers;
 pub use fills::fill_words;
 pub use marks::are_later;
 pub use marks::can_leave;
@@ -28,10 +30,15 @@ pub struct Place(pub usize);
 // A bit number in an area's bitmap, from 0.
 pub struct Bit(pub usize);
 
-// A reserved area: its first frame, its count of frames, and the order of its pages per bit, 2^order (Linux's order_per_bit; document
+// A reserved area: its first frame, its count of frames, and the order of its pages per bit, 2^order_per_bit (Linux's name; document
 // 01's k).
 pub struct Area {
     pub base: Frame,
     pub count: u64,
-    pub order: u64,
+    pub order_per_bit: u64,
+}
+
+impl Area {
+    // How many numbers an area takes in a record: its first frame, its count, and its order of pages per bit.
+    pub const NUMBERS: usize = 3;
 }

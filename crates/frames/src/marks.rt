@@ -1,5 +1,5 @@
-// Scans of the marks. A long scan goes by blocks of 32: whether a block can hold what is sought is asked of all 32 with no exit between them,
-// which the compiler turns into vector instructions, and only a block that can is looked through place by place.
+// Scans of the marks. A long scan goes by blocks of 32: whether a block can hold what is sought is asked of all 32 with no exit between
+// them, which the compiler turns into vector instructions, and only a block that can is looked through place by place.
 ghost use Prim.Native.Nat.{_≤_, _+_, _-_};
 ghost use mathlib.Core.Path.{_≡_};
 ghost use lib.Dec.{leb};
@@ -9,7 +9,6 @@ ghost use Rattle.search.specs.Search.{lowest, lowestFrom, some, every, howMany}
 ghost use Rattle.frames.specs.Units.{place};
 ghost use Rattle.frames.specs.Marks.{hasKind, isPageOf, canLeave, free, movable, later};
 ghost use Rattle.frames.specs.Scans.{marked, hasField, isFreeOrdinary};
-use crate::Area;
 use crate::Frame;
 use crate::Place;
 use crate::areas::ordinary_run;
@@ -254,11 +253,11 @@ fn is_movable(mark: u32) -> u64
 pub fn find_free_ordinary(
     marks: &[u32],
     base: Frame,
-    areas: [Area; 8],
+    areas: &[u64],
     declared: u64,
     from: Place,
 ) -> Place
-    ensures { λ r. ⌜ r ≡ place (lowestFrom (isFreeOrdinary (now (marks .entry)) base areas declared) (from .0) (length (now (marks .entry)) - from .0)) ⌝ }
+    ensures { λ r. ⌜ r ≡ place (lowestFrom (isFreeOrdinary (now (marks .entry)) base (now (areas .entry)) declared) (from .0) (length (now (marks .entry)) - from .0)) ⌝ }
 {
     let len = marks.len();
     let mut i = from.0;
@@ -305,11 +304,11 @@ fn is_free(mark: u32) -> u64
 pub fn has_free_ordinary(
     marks: &[u32],
     base: Frame,
-    areas: [Area; 8],
+    areas: &[u64],
     declared: u64,
     least: u64,
 ) -> bool
-    ensures { λ r. ⌜ r ≡ leb least (howMany (isFreeOrdinary (now (marks .entry)) base areas declared) 0 (length (now (marks .entry)))) ⌝ }
+    ensures { λ r. ⌜ r ≡ leb least (howMany (isFreeOrdinary (now (marks .entry)) base (now (areas .entry)) declared) 0 (length (now (marks .entry)))) ⌝ }
 {
     let len = marks.len();
     let mut left = least;

@@ -1,10 +1,23 @@
-// The place of a frame, and the frame at a place. The conversions to and from bits stand with the grants, those to and from bytes with the
-// declarations: each needs bounds that are known there.
+// The place of a frame, and the frame at a place. The conversions to and from bits stand in `device_calls`, those to and from bytes in
+// `setup`: each needs bounds that are known there.
 ghost use Prim.Native.Nat.{_+_, _-_, min};
 ghost use mathlib.Core.Path.{_≡_};
-ghost use Rattle.frames.specs.Units.{frame, place};
+ghost use Rattle.frames.specs.Units.{frame, place, mostNumber};
 use crate::Frame;
 use crate::Place;
+
+// The largest number of 64 bits.
+const MOST_NUMBER: u64 = u64::MAX;
+
+// The sum of two numbers; the largest number where it would pass that.
+pub(crate) fn sum_or_most(x: u64, y: u64) -> u64
+    ensures { λ r. ⌜ r ≡ min (x + y) mostNumber ⌝ }
+{
+    if MOST_NUMBER - x < y {
+        return MOST_NUMBER;
+    }
+    x + y
+}
 
 // The place of a frame in tables that begin at frame `base`; 0 for a frame before them.
 pub fn place_of(base: Frame, frame: Frame) -> Place
@@ -18,11 +31,7 @@ pub fn place_of(base: Frame, frame: Frame) -> Place
 
 // The frame at a place of tables that begin at frame `base`; the largest number where it would pass that.
 pub fn frame_at(base: Frame, page: Place) -> Frame
-    ensures { λ r. ⌜ r ≡ frame (min (base .0 + page .0) 18446744073709551615) ⌝ }
+    ensures { λ r. ⌜ r ≡ frame (min (base .0 + page .0) mostNumber) ⌝ }
 {
-    let past = page.0 as u64;
-    if 18446744073709551615 - past < base.0 {
-        return Frame(18446744073709551615);
-    }
-    Frame(base.0 + past)
+    Frame(sum_or_most(base.0, page.0 as u64))
 }

@@ -1,18 +1,26 @@
-// The contiguous-memory page manager: the machine record and its calls.
+// The machine record's calls, as methods by value, and one function that performs any of them.
+//
+// Each takes any record, any numbers, any text and any tables, and hands the next record back with the answer. A refused call has changed
+// nothing. What a call does stands in `page_calls` and `device_calls`, which are lent the areas and copy none, and in `setup`, which makes
+// the next record.
 ghost use mathlib.Core.Path.{_≡_};
-ghost use Rattle.rules.specs.Record.{freshMachine};
-ghost use Rattle.machine.specs.Given.{machineOf};
-
-mod device_calls;
-mod page_calls;
-mod setup;
-
+ghost use Rattle.rules.specs.Record.{freshRecord};
+ghost use Rattle.rules.specs.PageCalls.{putMovable, putFixed, dropPage, pinPage, unpinPage, storePage, readPage};
+ghost use Rattle.rules.specs.DeviceCalls.{grant, release, deviceStore, deviceRead};
+ghost use Rattle.rules.specs.Declare.{declare};
+ghost use Rattle.rules.specs.Boot.{boot};
+ghost use Rattle.rules.specs.Calls.{perform};
+ghost use Rattle.machine.specs.Does.{Does};
 use answer::Answer;
-use memory::Memory;
+use frames::Frame;
+use rules::Call;
+use rules::Record;
+use rules::Request;
 
-// The machine record, which each call takes and hands back.
+// A machine is its record. Methods can only stand in the crate of their type, and the record's own type stands below the rules that are
+// stated of it; so the calls are methods of this one, which holds the record and nothing else.
 pub struct Machine {
-    pub memory: Memory,
+    pub record: Record,
 }
 
 // What a call hands back: the next record and the answer.
@@ -24,9 +32,371 @@ pub struct Returned {
 impl Machine {
     // A fresh record: all zeros, so every call but boot refuses it as the wrong shape.
     pub fn fresh() -> Self
-        ensures { λ r. ⌜ machineOf r ≡ freshMachine ⌝ }
+        ensures { λ r. ⌜ r .record ≡ freshRecord ⌝ }
     {
-        let memory = Memory::fresh();
-        Self { memory }
+        let record = Record::fresh();
+        Self { record }
+    }
+
+    // A movable page is put.
+    pub fn put_movable(
+        self,
+        marks: &mut [u32],
+        words: &mut [u64],
+        bitmap: &mut [u64],
+        name: u64,
+    ) -> Returned
+        ensures { λ r. ⌜ Does (λ m. putMovable m name) self r marks words bitmap ⌝ }
+    {
+        let answer = page_calls::put_movable(
+            self.record.memory,
+            &self.record.areas,
+            marks,
+            words,
+            bitmap,
+            name,
+        );
+        Returned {
+            machine: self,
+            answer,
+        }
+    }
+
+    // A fixed page is put, which no area takes.
+    pub fn put_fixed(
+        self,
+        marks: &mut [u32],
+        words: &mut [u64],
+        bitmap: &mut [u64],
+        name: u64,
+    ) -> Returned
+        ensures { λ r. ⌜ Does (λ m. putFixed m name) self r marks words bitmap ⌝ }
+    {
+        let answer = page_calls::put_fixed(
+            self.record.memory,
+            &self.record.areas,
+            marks,
+            words,
+            bitmap,
+            name,
+        );
+        Returned {
+            machine: self,
+            answer,
+        }
+    }
+
+    // A page is gone from its frame, unless it is pinned.
+    pub fn drop_page(
+        self,
+        marks: &mut [u32],
+        words: &mut [u64],
+        bitmap: &mut [u64],
+        name: u64,
+    ) -> Returned
+        ensures { λ r. ⌜ Does (λ m. dropPage m name) self r marks words bitmap ⌝ }
+    {
+        let answer = page_calls::drop_page(
+            self.record.memory,
+            &self.record.areas,
+            marks,
+            words,
+            bitmap,
+            name,
+        );
+        Returned {
+            machine: self,
+            answer,
+        }
+    }
+
+    // A movable page is pinned: nobody may move, rewrite or drop it.
+    pub fn pin_page(
+        self,
+        marks: &mut [u32],
+        words: &mut [u64],
+        bitmap: &mut [u64],
+        name: u64,
+    ) -> Returned
+        ensures { λ r. ⌜ Does (λ m. pinPage m name) self r marks words bitmap ⌝ }
+    {
+        let answer = page_calls::pin_page(
+            self.record.memory,
+            &self.record.areas,
+            marks,
+            words,
+            bitmap,
+            name,
+        );
+        Returned {
+            machine: self,
+            answer,
+        }
+    }
+
+    // A pinned page is movable again.
+    pub fn unpin_page(
+        self,
+        marks: &mut [u32],
+        words: &mut [u64],
+        bitmap: &mut [u64],
+        name: u64,
+    ) -> Returned
+        ensures { λ r. ⌜ Does (λ m. unpinPage m name) self r marks words bitmap ⌝ }
+    {
+        let answer = page_calls::unpin_page(
+            self.record.memory,
+            &self.record.areas,
+            marks,
+            words,
+            bitmap,
+            name,
+        );
+        Returned {
+            machine: self,
+            answer,
+        }
+    }
+
+    // The word becomes the page's, unless it is pinned.
+    pub fn store_page(
+        self,
+        marks: &mut [u32],
+        words: &mut [u64],
+        bitmap: &mut [u64],
+        name: u64,
+        word: u64,
+    ) -> Returned
+        ensures { λ r. ⌜ Does (λ m. storePage m name word) self r marks words bitmap ⌝ }
+    {
+        let answer = page_calls::store_page(
+            self.record.memory,
+            &self.record.areas,
+            marks,
+            words,
+            bitmap,
+            name,
+            word,
+        );
+        Returned {
+            machine: self,
+            answer,
+        }
+    }
+
+    // The page's frame and its word.
+    pub fn read_page(
+        self,
+        marks: &mut [u32],
+        words: &mut [u64],
+        bitmap: &mut [u64],
+        name: u64,
+    ) -> Returned
+        ensures { λ r. ⌜ Does (λ m. readPage m name) self r marks words bitmap ⌝ }
+    {
+        let answer = page_calls::read_page(
+            self.record.memory,
+            &self.record.areas,
+            marks,
+            words,
+            bitmap,
+            name,
+        );
+        Returned {
+            machine: self,
+            answer,
+        }
+    }
+
+    // The lowest run that can be granted is a device's, and its movable pages stand elsewhere.
+    pub fn grant(
+        self,
+        marks: &mut [u32],
+        words: &mut [u64],
+        bitmap: &mut [u64],
+        area: u64,
+        count: u64,
+        align: u64,
+    ) -> Returned
+        ensures { λ r. ⌜ Does (λ m. grant m area count align) self r marks words bitmap ⌝ }
+    {
+        let answer = device_calls::grant(
+            self.record.memory,
+            &self.record.areas,
+            marks,
+            words,
+            bitmap,
+            area,
+            count,
+            align,
+        );
+        Returned {
+            machine: self,
+            answer,
+        }
+    }
+
+    // A grant ends: its frames are free, and its bits clear.
+    pub fn release(
+        self,
+        marks: &mut [u32],
+        words: &mut [u64],
+        bitmap: &mut [u64],
+        area: u64,
+        frame: Frame,
+        count: u64,
+    ) -> Returned
+        ensures { λ r. ⌜ Does (λ m. release m area frame count) self r marks words bitmap ⌝ }
+    {
+        let answer = device_calls::release(
+            self.record.memory,
+            &self.record.areas,
+            marks,
+            words,
+            bitmap,
+            area,
+            frame,
+            count,
+        );
+        Returned {
+            machine: self,
+            answer,
+        }
+    }
+
+    // The word becomes that of a granted frame.
+    pub fn device_store(
+        self,
+        marks: &mut [u32],
+        words: &mut [u64],
+        bitmap: &mut [u64],
+        frame: Frame,
+        word: u64,
+    ) -> Returned
+        ensures { λ r. ⌜ Does (λ m. deviceStore m frame word) self r marks words bitmap ⌝ }
+    {
+        let answer = device_calls::device_store(
+            self.record.memory,
+            &self.record.areas,
+            marks,
+            words,
+            bitmap,
+            frame,
+            word,
+        );
+        Returned {
+            machine: self,
+            answer,
+        }
+    }
+
+    // The word of a granted frame.
+    pub fn device_read(
+        self,
+        marks: &mut [u32],
+        words: &mut [u64],
+        bitmap: &mut [u64],
+        frame: Frame,
+    ) -> Returned
+        ensures { λ r. ⌜ Does (λ m. deviceRead m frame) self r marks words bitmap ⌝ }
+    {
+        let answer = device_calls::device_read(
+            self.record.memory,
+            &self.record.areas,
+            marks,
+            words,
+            bitmap,
+            frame,
+        );
+        Returned {
+            machine: self,
+            answer,
+        }
+    }
+
+    // A new area, where the request says or at the highest place that it can have. Its bitmap words become 0.
+    pub fn declare(
+        self,
+        marks: &mut [u32],
+        words: &mut [u64],
+        bitmap: &mut [u64],
+        request: Request,
+    ) -> Returned
+        ensures { λ r. ⌜ Does (λ m. declare m request) self r marks words bitmap ⌝ }
+    {
+        let record = self.record;
+        let laid = setup::declare(record, marks, words, bitmap, request);
+        let record = laid.record;
+        let answer = laid.answer;
+        let machine = Machine { record };
+        Returned { machine, answer }
+    }
+
+    // A new record, whatever the one given, with the areas of a regions text, and tables that are all zero.
+    pub fn boot(
+        self,
+        marks: &mut [u32],
+        words: &mut [u64],
+        bitmap: &mut [u64],
+        base: Frame,
+        frames: u64,
+        block_order: u64,
+        text: &[u8],
+    ) -> Returned
+        ensures { λ r. ⌜ Does (λ m. boot m (base .0) frames «block_order» (now (text .entry))) self r marks words bitmap ⌝ }
+    {
+        let record = self.record;
+        let laid = setup::boot(
+            record,
+            marks,
+            words,
+            bitmap,
+            base,
+            frames,
+            block_order,
+            text,
+        );
+        let record = laid.record;
+        let answer = laid.answer;
+        let machine = Machine { record };
+        Returned { machine, answer }
+    }
+
+    // Any call. The text is a boot's, and no other call reads it.
+    pub fn perform(
+        self,
+        marks: &mut [u32],
+        words: &mut [u64],
+        bitmap: &mut [u64],
+        call: Call,
+        text: &[u8],
+    ) -> Returned
+        ensures { λ r. ⌜ Does (perform call (now (text .entry))) self r marks words bitmap ⌝ }
+    {
+        match call {
+            Call::PutMovable { name } => self.put_movable(marks, words, bitmap, name),
+            Call::PutFixed { name } => self.put_fixed(marks, words, bitmap, name),
+            Call::Drop { name } => self.drop_page(marks, words, bitmap, name),
+            Call::Pin { name } => self.pin_page(marks, words, bitmap, name),
+            Call::Unpin { name } => self.unpin_page(marks, words, bitmap, name),
+            Call::Store { name, word } => self.store_page(marks, words, bitmap, name, word),
+            Call::Read { name } => self.read_page(marks, words, bitmap, name),
+            Call::Grant { area, count, align } => {
+                self.grant(marks, words, bitmap, area, count, align)
+            }
+            Call::Release { area, frame, count } => {
+                self.release(marks, words, bitmap, area, frame, count)
+            }
+            Call::DeviceStore { frame, word } => {
+                self.device_store(marks, words, bitmap, frame, word)
+            }
+            Call::DeviceRead { frame } => self.device_read(marks, words, bitmap, frame),
+            Call::Declare { request } => self.declare(marks, words, bitmap, request),
+            Call::Boot {
+                base,
+                frames,
+                block_order,
+            } => self.boot(marks, words, bitmap, base, frames, block_order, text),
+        }
     }
 }

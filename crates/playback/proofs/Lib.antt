@@ -1,7 +1,5 @@
-pub mod ByKind
 pub mod Lending
 pub mod Ran
 pub mod Records
 pub mod ReplayExamples
 pub mod WholeOutput
-pub mod Within

@@ -8,11 +8,11 @@ use mathlib.Core.List.{List}
 use lib.ListN.{length, length-append, length-take}
 use borrow.Author.Tests.{le-leb, lt-leb}
 use Rattle.search.proofs.Bools.{by-cases, below-or-not}
-use Rattle.records.specs.declared.Record.{Record}
+use Rattle.rules.specs.declared.Call.{Call}
 use Rattle.records.specs.declared.Decoded.{Decoded}
 use Rattle.records.specs.declared.Decoded.the-variants.{Whole, Unknown, Cut}
 use Rattle.records.specs.Records.{decodeAt}
-use Rattle.records.specs.Lines.{written}
+use Rattle.text.specs.Writing.{written}
 use Rattle.records.proofs.Decoding.{whole-within}
 use Rattle.playback.specs.declared.Progress.{Progress}
 use Rattle.playback.specs.Playback.{hasRoomFor, Playing, answerOne, Played, followed, answerUpTo, answerRecords}
@@ -27,11 +27,11 @@ written-least : (out : List ℕ) (at : ℕ) (text : List ℕ) → at ≤ length 
 unfolding written
 written-least out at text h = simp (length-append, length-take) (omega arith)
 
-pub one-text : (s : Playing) (r : Record) (n : ℕ) → s .progress .text ≤ length (s .out) → answerOne s r n .progress .text ≤ length (answerOne s r n .out)
+pub one-text : (s : Playing) (r : Call) (n : ℕ) → s .progress .text ≤ length (s .out) → answerOne s r n .progress .text ≤ length (answerOne s r n .out)
 unfolding answerOne
 one-text s r n h = written-least (s .out) (s .progress .text) _ h
 
-one-step : (s : Playing) (r : Record) (n : ℕ) → answerOne s r n .progress .step ≡ s .progress .step + 1
+one-step : (s : Playing) (r : Call) (n : ℕ) → answerOne s r n .progress .step ≡ s .progress .step + 1
 unfolding answerOne
 one-step s r n = refl
 

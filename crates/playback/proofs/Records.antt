@@ -8,7 +8,7 @@
 --     whole            is answered, and what holds before it holds after it
 use Prim.Native.Nat.{ℕ, zero, suc, _+_, _≤_, _<_}
 use native.Mathlib.Omega.{arith}
-use mathlib.Core.Path.{_≡_, refl, sym, ap, _∙_}
+use mathlib.Core.Path.{_≡_, refl, ap, _∙_}
 use mathlib.Core.Bool.{true, false}
 use mathlib.Core.List.{List}
 use lib.ListN.{length}
@@ -17,18 +17,18 @@ use borrow.Author.Tests.{leb-true, ltb-true, le-leb, lt-leb}
 use Rattle.search.proofs.Bools.{and-left, and-right}
 use Rattle.frames.specs.Tables.{Tables, tables}
 use Rattle.machine.specs.declared.Returned.{Returned}
-use Rattle.machine.specs.Given.{machineOf, givenOf, outcomeOf}
-use Rattle.rules.specs.Outcomes.{Outcome}
-use Rattle.records.specs.declared.Record.{Record}
+use Rattle.rules.specs.declared.Call.{Call}
+use Rattle.rules.specs.Outcomes.{Outcome, outcome}
 use Rattle.records.specs.declared.Decoded.{Decoded}
 use Rattle.records.specs.declared.Decoded.the-variants.{Whole, Unknown, Cut}
 use Rattle.records.specs.Records.{decodeAt}
-use Rattle.records.specs.Lines.{Appended, hasRoom, written, lineOf}
+use Rattle.text.specs.Writing.{Appended, hasRoom, written}
+use Rattle.records.specs.Lines.{lineOf}
 use Rattle.records.proofs.Texts.{line-most}
 use Rattle.records.proofs.Decoding.{whole-within}
 use Rattle.playback.specs.declared.Progress.{Progress}
 use Rattle.playback.specs.declared.Stop.the-variants as Stop
-use Rattle.playback.specs.Playback.{answerTo, hasRoomFor, room, lastStep, Playing, playing, lineFor, progressAfter, answerOne, Played, stopFor, followed, answerUpTo, answerRecords}
+use Rattle.playback.specs.Playback.{answerTo, hasRoomFor, room, lastStep, Playing, playing, lineFor, machineOf, progressAfter, answerOne, stopFor, followed, answerUpTo, answerRecords}
 
 -- ---- one record
 
@@ -48,12 +48,12 @@ line-has-room out p a b c h =
     le-leb (p .text + length (lineOf (p .step) a b c)) (length out) (omega (arith, line-most (p .step) a b c))
 
 after-line : (p : Progress) (size next : ℕ) (after : List ℕ) (o : Outcome) → Playing
-after-line p size next after o = playing (record { machine = givenOf (o .machine); at = p .at + size; text = next; step = p .step + 1 }) after (o .left)
+after-line p size next after o = playing (record { machine = machineOf (o .machine); at = p .at + size; text = next; step = p .step + 1 }) after (o .left)
 
 pub one-answered :
-    (p : Progress) (out : List ℕ) (t : Tables) (r : Record) (size : ℕ) (o : Returned) (marks words bitmap after : List ℕ) (next : ℕ)
+    (p : Progress) (out : List ℕ) (t : Tables) (r : Call) (size : ℕ) (o : Returned) (marks words bitmap after : List ℕ) (next : ℕ)
     → hasRoomFor (length out) p ≡ true
-    → outcomeOf o marks words bitmap ≡ answerTo r (machineOf (p .machine)) t
+    → outcome (o .machine .«record») (o .answer) (tables marks words bitmap) ≡ answerTo r (p .machine .«record») t
     → Appended out (p .text) (lineOf (p .step) (o .answer .refusal) (o .answer .first) (o .answer .second)) after next
     → playing (record { machine = o .machine; at = p .at + size; text = next; step = p .step + 1 }) after (tables marks words bitmap)
     ≡ answerOne (playing p out t) r size
@@ -62,11 +62,12 @@ one-answered p out t r size o marks words bitmap after next h e a =
     let fits = line-has-room out p (o .answer .refusal) (o .answer .first) (o .answer .second) h in
     let place = rw fits at (a .place) in
     let bytes = rw fits at (a .bytes) in
-    ap (λ (n : ℕ). after-line p size n after (outcomeOf o marks words bitmap)) place
-    ∙ ap (λ (l : List ℕ). after-line p size (p .text + length (lineFor (p .step) (o .answer))) l (outcomeOf o marks words bitmap)) bytes
+    let made = outcome (o .machine .«record») (o .answer) (tables marks words bitmap) in
+    ap (λ (n : ℕ). after-line p size n after made) place
+    ∙ ap (λ (l : List ℕ). after-line p size (p .text + length (lineFor (p .step) (o .answer))) l made) bytes
     ∙ ap (λ (w : Outcome). playing (progressAfter p w size) (written out (p .text) (lineFor (p .step) (w .answer))) (w .left)) e
 
-pub one-at : (s : Playing) (r : Record) (size : ℕ) → answerOne s r size .progress .at ≡ s .progress .at + size
+pub one-at : (s : Playing) (r : Call) (size : ℕ) → answerOne s r size .progress .at ≡ s .progress .at + size
 unfolding answerOne
 one-at s r size = refl
 
@@ -124,7 +125,7 @@ module _ (bytes : List ℕ) (start : Playing) where
   pub cut : (s : Playing) → Turn s → decodeAt bytes (s .progress .at) ≡ Cut → answerRecords bytes start ≡ stopFor Stop.Cut s
   cut s t e = t .same ∙ ap (λ (d : Decoded). followed d s (answerUpTo (t .more) bytes)) e
 
-  pub whole : (s : Playing) (r : Record) (n : ℕ) → Turn s → decodeAt bytes (s .progress .at) ≡ Whole r n → Same (answerOne s r n)
+  pub whole : (s : Playing) (r : Call) (n : ℕ) → Turn s → decodeAt bytes (s .progress .at) ≡ Whole r n → Same (answerOne s r n)
   whole s r n t e =
       let w = whole-within bytes (s .progress .at) e in
       record {

@@ -9,13 +9,13 @@ use lib.Seq.{take-at}
 use borrow.Author.Tests.{le-leb, lt-leb}
 use Rattle.search.proofs.Bools.{by-cases, below-or-not}
 use Rattle.frames.specs.Tables.{Tables}
-use Rattle.rules.specs.Record.{freshMachine}
-use Rattle.machine.specs.Given.{machineOf}
-use Rattle.records.specs.declared.Record.{Record}
+use Rattle.rules.specs.declared.Call.{Call}
+use Rattle.rules.specs.Record.{freshRecord}
 use Rattle.records.specs.declared.Decoded.{Decoded}
 use Rattle.records.specs.declared.Decoded.the-variants.{Whole, Unknown, Cut}
 use Rattle.records.specs.Records.{decodeAt}
-use Rattle.records.specs.Lines.{written, heading}
+use Rattle.text.specs.Writing.{written}
+use Rattle.records.specs.Lines.{heading}
 use Rattle.playback.specs.declared.Stop.the-variants as Stop
 use Rattle.playback.specs.Playback.{answerTo, lineFor, hasRoomFor, Playing, playing, answerOne, Played, followed, answerUpTo, answerRecords}
 use Rattle.playback.specs.Replay.{heldTables, linesAfter, linesUpTo, linesOf, replayOutput, textOf, fresh, WholeOutput}
@@ -27,16 +27,16 @@ soFar s = take (s .progress .text) (s .out)
 
 -- the lines that are left, at most so many
 abbrev left : ℕ → List ℕ → Playing → List ℕ
-left more bytes s = linesUpTo more bytes (s .progress .at) (s .progress .step) (machineOf (s .progress .machine)) (s .left)
+left more bytes s = linesUpTo more bytes (s .progress .at) (s .progress .step) (s .progress .machine .«record») (s .left)
 
 -- a record's line comes after the text so far
 one-line :
-    (s : Playing) (r : Record) (n : ℕ) → s .progress .text ≤ length (s .out)
-    → soFar (answerOne s r n) ≡ soFar s ++ lineFor (s .progress .step) (answerTo r (machineOf (s .progress .machine)) (s .left) .answer)
+    (s : Playing) (r : Call) (n : ℕ) → s .progress .text ≤ length (s .out)
+    → soFar (answerOne s r n) ≡ soFar s ++ lineFor (s .progress .step) (answerTo r (s .progress .machine .«record») (s .left) .answer)
 unfolding answerOne written
 one-line s r n h =
     let p = s .progress in
-    let line = lineFor (p .step) (answerTo r (machineOf (p .machine)) (s .left) .answer) in
+    let line = lineFor (p .step) (answerTo r (p .machine .«record») (s .left) .answer) in
     take-at (soFar s ++ line) (drop (p .text + length line) (s .out)) (p .text + length line) (simp (length-append, length-take) (omega arith))
 
 module _ (bytes : List ℕ) (more : ℕ) where
@@ -45,7 +45,7 @@ module _ (bytes : List ℕ) (more : ℕ) where
   Kept s end = end .stopped .why ≢ Stop.Full → textOf end ≡ soFar s ++ left more bytes s
 
   abbrev followedBy : Decoded → Playing → List ℕ
-  followedBy d s = linesAfter d (s .progress .at) (s .progress .step) (machineOf (s .progress .machine)) (s .left) (linesUpTo more bytes)
+  followedBy d s = linesAfter d (s .progress .at) (s .progress .step) (s .progress .machine .«record») (s .left) (linesUpTo more bytes)
 
   follows :
       (d : Decoded) (s : Playing) → s .progress .text ≤ length (s .out)
@@ -54,7 +54,7 @@ module _ (bytes : List ℕ) (more : ℕ) where
       → textOf (followed d s (answerUpTo more bytes)) ≡ soFar s ++ followedBy d s
   unfolding answerOne
   follows (Whole r n) s h rest e =
-      let line = lineFor (s .progress .step) (answerTo r (machineOf (s .progress .machine)) (s .left) .answer) in
+      let line = lineFor (s .progress .step) (answerTo r (s .progress .machine .«record») (s .left) .answer) in
       rest (answerOne s r n) (one-text s r n h) e
       ∙ ap (λ (l : List ℕ). l ++ left more bytes (answerOne s r n)) (one-line s r n h)
       ∙ append-assoc (soFar s) line (left more bytes (answerOne s r n))
@@ -76,12 +76,12 @@ up-to bytes (suc more) s h =
 from-start :
     (bytes out : List ℕ) (t : Tables) → take (length heading) out ≡ heading
     → answerRecords bytes (playing fresh out t) .stopped .why ≢ Stop.Full
-    → textOf (answerRecords bytes (playing fresh out t)) ≡ heading ++ linesOf bytes freshMachine t
+    → textOf (answerRecords bytes (playing fresh out t)) ≡ heading ++ linesOf bytes freshRecord t
 unfolding answerRecords linesOf
 from-start bytes out t h e =
     let short : length (take (length heading) out) ≡ length heading = ap length h in
     let inside : length heading ≤ length out = omega (arith, rw length-take at short) in
-    up-to bytes (length bytes) (playing fresh out t) inside e ∙ ap (λ (l : List ℕ). l ++ linesUpTo (length bytes) bytes 0 0 freshMachine t) h
+    up-to bytes (length bytes) (playing fresh out t) inside e ∙ ap (λ (l : List ℕ). l ++ linesUpTo (length bytes) bytes 0 0 freshRecord t) h
 
 pub whole-output : WholeOutput
 unfolding replayOutput

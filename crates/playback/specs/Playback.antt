@@ -1,22 +1,24 @@
 -- Document 01, "Replay records": the call of a record, what it is lent, and the lines of record after record.
-use Prim.Native.Nat.{ℕ, zero, suc, _+_, _-_, _^_}
+use Prim.Native.Nat.{ℕ, zero, suc, _+_}
 use mathlib.Core.Bool.{Bool, not, _&&_, _||_}
 use mathlib.Core.List.{List, [], _++_}
 use lib.ListN.{length, take, drop}
 use lib.Dec.{ltb, leb}
 use Rattle.search.specs.Choice.{if_then_else_}
 use Rattle.answer.specs.declared.Answer.{Answer}
+use Rattle.frames.specs.Units.{mostNumber}
 use Rattle.frames.specs.Tables.{Tables, tables}
-use Rattle.rules.specs.Record.{Machine}
+use Rattle.rules.specs.declared.Call.{Call}
+use Rattle.rules.specs.declared.Record.{Record}
 use Rattle.rules.specs.Outcomes.{Outcome, outcome, refuse}
-use Rattle.rules.specs.Calls.{Call, putMovable, putFixed, dropPage, pinPage, unpinPage, storePage, readPage, grant, release, deviceStore, deviceRead, declare, boot, perform}
-use Rattle.machine.specs.Given.{machineOf, givenOf}
-use Rattle.records.specs.declared.Record.{Record}
-use Rattle.records.specs.declared.Record.the-variants.{Boot, PutMovable, PutFixed, Drop, Pin, Unpin, Store, Read, Grant, Release, DeviceStore, DeviceRead, Declare}
+use Rattle.rules.specs.Calls.{perform}
+use Rattle.rules.specs.ledger.Roles.{roleOf}
+use Rattle.machine.specs.declared.Machine.{Machine}
 use Rattle.records.specs.declared.Decoded.{Decoded}
 use Rattle.records.specs.declared.Decoded.the-variants.{Whole, Unknown, Cut}
 use Rattle.records.specs.Records.{decodeAt}
-use Rattle.records.specs.Lines.{lineOf, written}
+use Rattle.text.specs.Writing.{written}
+use Rattle.records.specs.Lines.{lineOf}
 use Rattle.playback.specs.declared.Progress.{Progress}
 use Rattle.playback.specs.declared.Stop.{Stop}
 use Rattle.playback.specs.declared.Stop.the-variants as Stop
@@ -24,70 +26,26 @@ use Rattle.playback.specs.declared.Stopped.{Stopped}
 
 -- ---- one record
 
--- the number of a record's kind
-abbrev pub kindOf : Record → ℕ
-kindOf (Boot base frames order) = 0
-kindOf (PutMovable name) = 1
-kindOf (PutFixed name) = 2
-kindOf (Drop name) = 3
-kindOf (Pin name) = 4
-kindOf (Unpin name) = 5
-kindOf (Store name word) = 6
-kindOf (Read name) = 7
-kindOf (Grant area order count) = 8
-kindOf (Release area f count) = 9
-kindOf (DeviceStore f word) = 10
-kindOf (DeviceRead f) = 11
-kindOf (Declare base size limit alignment order fixed) = 12
-
--- the call that a record stands for; a boot has the empty text
-abbrev pub callOf : Record → Call
-callOf (Boot base frames order) = boot (base .0) frames order []
-callOf (PutMovable name) = putMovable name
-callOf (PutFixed name) = putFixed name
-callOf (Drop name) = dropPage name
-callOf (Pin name) = pinPage name
-callOf (Unpin name) = unpinPage name
-callOf (Store name word) = storePage name word
-callOf (Read name) = readPage name
-callOf (Grant area order count) = grant area count order
-callOf (Release area f count) = release area f count
-callOf (DeviceStore f word) = deviceStore f word
-callOf (DeviceRead f) = deviceRead f
-callOf (Declare base size limit alignment order fixed) =
-    declare record { base = base; size = size; limit = limit; alignment = alignment; order = order; fixed = fixed }
-
 -- how many frames the tables are lent for: a boot's own, else the machine's
-unfoldable pub framesFor : Machine → Record → ℕ
-framesFor m (Boot base frames order) = frames
-framesFor m (PutMovable name) = m .frames
-framesFor m (PutFixed name) = m .frames
-framesFor m (Drop name) = m .frames
-framesFor m (Pin name) = m .frames
-framesFor m (Unpin name) = m .frames
-framesFor m (Store name word) = m .frames
-framesFor m (Read name) = m .frames
-framesFor m (Grant area order count) = m .frames
-framesFor m (Release area f count) = m .frames
-framesFor m (DeviceStore f word) = m .frames
-framesFor m (DeviceRead f) = m .frames
-framesFor m (Declare base size limit alignment order fixed) = m .frames
+unfoldable pub framesFor : Record → Call → ℕ
+framesFor m call = roleOf call .frames (m .memory .frames)
 
 -- the entries of marks and words that are lent, and the whole bitmap
-abbrev pub lent : ℕ → Tables → Tables
-lent n t = tables (take n (t .marks)) (take n (t .words)) (t .bitmap)
+abbrev pub entriesFor : ℕ → Tables → Tables
+entriesFor n t = tables (take n (t .marks)) (take n (t .words)) (t .bitmap)
 
 -- the tables after the lent entries are as a call left them: the entries after those are kept
-abbrev pub givenBack : ℕ → Tables → Tables → Tables
-givenBack n t left = tables (left .marks ++ drop n (t .marks)) (left .words ++ drop n (t .words)) (left .bitmap)
+abbrev pub withEntries : ℕ → Tables → Tables → Tables
+withEntries n t left = tables (left .marks ++ drop n (t .marks)) (left .words ++ drop n (t .words)) (left .bitmap)
 
--- what a record is answered: 1 where the tables hold fewer entries than frames; else its call is made, lent an entry for each frame
-unfoldable pub answerTo : Record → Machine → Tables → Outcome
-answerTo r m t =
-    let n = framesFor m r in
-    let o = perform (callOf r) m (lent n t) in
+-- what a record's call is answered: 1 where the tables hold fewer entries than frames; else it is made, lent an entry for each frame. A
+-- boot has the empty text
+unfoldable pub answerTo : Call → Record → Tables → Outcome
+answerTo call m t =
+    let n = framesFor m call in
+    let o = perform call [] m (entriesFor n t) in
     if ltb (length (t .marks)) n || ltb (length (t .words)) n then refuse m t 1
-    else outcome (o .machine) (o .answer) (givenBack n t (o .left))
+    else outcome (o .machine) (o .answer) (withEntries n t (o .left))
 
 -- ---- record after record
 
@@ -95,9 +53,9 @@ answerTo r m t =
 abbrev pub room : ℕ
 room = 128
 
--- the last step that 64 bits can count
+-- the last step that can be counted
 abbrev pub lastStep : ℕ
-lastStep = 2 ^ 64 - 1
+lastStep = mostNumber
 
 -- another line can be written after the text, in an output of a size, and its step counted
 unfoldable pub hasRoomFor : ℕ → Progress → Bool
@@ -116,15 +74,19 @@ playing p out t = record { progress = p; out = out; left = t }
 abbrev pub lineFor : ℕ → Answer → List ℕ
 lineFor step a = lineOf step (a .refusal) (a .first) (a .second)
 
+-- the machine of a record
+abbrev pub machineOf : Record → Machine
+machineOf m = record { «record» = m }
+
 -- after a record of a size: its call is made, its line written, and its step counted
 abbrev pub progressAfter : Progress → Outcome → ℕ → Progress
 progressAfter p o size =
-    record { machine = givenOf (o .machine); at = p .at + size; text = p .text + length (lineFor (p .step) (o .answer)); step = p .step + 1 }
+    record { machine = machineOf (o .machine); at = p .at + size; text = p .text + length (lineFor (p .step) (o .answer)); step = p .step + 1 }
 
-unfoldable pub answerOne : Playing → Record → ℕ → Playing
-answerOne s r size =
+unfoldable pub answerOne : Playing → Call → ℕ → Playing
+answerOne s call size =
     let p = s .progress in
-    let o = answerTo r (machineOf (p .machine)) (s .left) in
+    let o = answerTo call (p .machine .«record») (s .left) in
     playing (progressAfter p o size) (written (s .out) (p .text) (lineFor (p .step) (o .answer))) (o .left)
 
 -- what is left when no more records are answered, and why
@@ -144,7 +106,7 @@ stopFor why s = played (stoppedAt (s .progress) why) (s .out) (s .left)
 
 -- a whole record is answered and the next follows; else the reason is that of the decoding
 abbrev pub followed : Decoded → Playing → (Playing → Played) → Played
-followed (Whole r size) s next = next (answerOne s r size)
+followed (Whole call size) s next = next (answerOne s call size)
 followed Unknown s next = stopFor Stop.Unknown s
 followed Cut s next = stopFor Stop.Cut s
 

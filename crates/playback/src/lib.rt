@@ -1,9 +1,10 @@
 // Document 01, "Replay records": records answered on lent tables, one or many, with a line of text for each.
 ghost use mathlib.Core.Path.{_≡_};
 ghost use mathlib.Core.Bool.{true};
-ghost use Prim.Native.Nat.{_+_, _<_, _^_};
+ghost use Prim.Native.Nat.{_+_, _≤_};
 ghost use lib.ListN.{length};
-ghost use Rattle.frames.specs.Tables.{tables};
+ghost use Rattle.frames.specs.Units.{mostNumber};
+ghost use Rattle.frames.specs.Lent.{entering, leaving};
 ghost use Rattle.playback.specs.Playback.{stoppedAt, hasRoomFor, playing, answerOne, played, answerRecords};
 
 mod calls;
@@ -12,18 +13,18 @@ pub mod held;
 pub use calls::answer;
 use machine::Machine;
 use records::Decoded;
-use records::Record;
 use records::lines;
+use rules::Call;
 
-// The room that a step's line is given: it is enough for the longest, which has 84 bytes, and for the last line of an output after it, which
-// has at most 25.
+// The room that a step's line is given: it is enough for the longest, which has 84 bytes, and for the last line of an output after it,
+// which has at most 25.
 const ROOM: usize = 128;
 
 // The last step that can be counted.
-const LAST_STEP: u64 = 18446744073709551615;
+const LAST_STEP: u64 = u64::MAX;
 
-// How far the records are answered: the machine, the place of the next record among the bytes, the length of the text so far, and the number
-// of records.
+// How far the records are answered: the machine, the place of the next record among the bytes, the length of the text so far, and the
+// number of records.
 pub struct Progress {
     pub machine: Machine,
     pub at: usize,
@@ -80,14 +81,14 @@ fn answer_one(
     words: &mut [u64],
     bitmap: &mut [u64],
     p: Progress,
-    item: Record,
+    call: Call,
     size: usize,
 ) -> Progress
-    requires { ⌜ (hasRoomFor (length (now out)) p ≡ true) × (p .at + size < 2 ^ 64) ⌝ }
-    ensures { λ r. ⌜ playing r (now (out .exit)) (tables (now (marks .exit)) (now (words .exit)) (now (bitmap .exit))) ≡ answerOne (playing p (now (out .entry)) (tables (now (marks .entry)) (now (words .entry)) (now (bitmap .entry)))) item size ⌝ }
+    requires { ⌜ (hasRoomFor (length (now out)) p ≡ true) × (p .at + size ≤ mostNumber) ⌝ }
+    ensures { λ r. ⌜ playing r (now (out .exit)) (leaving marks words bitmap) ≡ answerOne (playing p (now (out .entry)) (entering marks words bitmap)) call size ⌝ }
 {
     let before = p.machine;
-    let returned = answer(marks, words, bitmap, before, item);
+    let returned = answer(marks, words, bitmap, before, call);
     let machine = returned.machine;
     let a = returned.answer;
     let text = lines::put_line(out, p.text, p.step, a.refusal, a.first, a.second);
@@ -108,7 +109,7 @@ pub fn answer_records(
     bitmap: &mut [u64],
     start: Progress,
 ) -> Stopped
-    ensures { λ r. ⌜ played r (now (out .exit)) (tables (now (marks .exit)) (now (words .exit)) (now (bitmap .exit))) ≡ answerRecords (now (bytes .entry)) (playing start (now (out .entry)) (tables (now (marks .entry)) (now (words .entry)) (now (bitmap .entry)))) ⌝ }
+    ensures { λ r. ⌜ played r (now (out .exit)) (leaving marks words bitmap) ≡ answerRecords (now (bytes .entry)) (playing start (now (out .entry)) (entering marks words bitmap)) ⌝ }
 {
     let mut p = start;
     while p.at < bytes.len() {
@@ -118,8 +119,8 @@ pub fn answer_records(
         let at = p.at;
         let found = records::decode(bytes, at);
         match found {
-            Decoded::Whole(item, size) => {
-                p = answer_one(out, marks, words, bitmap, p, item, size);
+            Decoded::Whole(call, size) => {
+                p = answer_one(out, marks, words, bitmap, p, call, size);
             }
             Decoded::Unknown => {
                 return p.stops(Stop::Unknown);

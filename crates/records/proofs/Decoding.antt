@@ -14,7 +14,7 @@ use borrow.Author.Tests.{le-leb, lt-leb, eq-eqb, ne-eqb, lt-ltb, le-ltb, eqb-tru
 use Rattle.search.proofs.Bools.{by-cases, below-or-not}
 use Rattle.records.specs.Records.{bodyLength, bodyAt, decodeAt}
 use Rattle.records.proofs.Bodies.{body-most}
-use Rattle.records.specs.declared.Record.{Record}
+use Rattle.rules.specs.declared.Call.{Call}
 use Rattle.records.specs.declared.Decoded.the-variants.{Whole, Unknown, Cut}
 
 module _ (s : List ℕ) (at : ℕ) where
@@ -44,14 +44,14 @@ module _ (s : List ℕ) (at : ℕ) where
     pub most : n ≤ 35
     pub inside : at + n ≤ length s
 
-  within : {r : Record} {n : ℕ} → at < length s → (size ≡ 0 → ⊥) → size ≤ length s - (at + 1) → decodeAt s at ≡ Whole r n → Within n
+  within : {r : Call} {n : ℕ} → at < length s → (size ≡ 0 → ⊥) → size ≤ length s - (at + 1) → decodeAt s at ≡ Whole r n → Within n
   within {r} {n} h ne l e =
       let w = decode-whole h ne l in
       let m : size + 1 ≡ n = cc in
       let some : 0 < size = below-or-not 0 size (λ z. z) (λ z. absurd (ne (omega arith))) in
       record { some = omega arith; most = omega (arith, body-most (getD s at 0)); inside = omega arith }
 
-  pub whole-within : {r : Record} {n : ℕ} → decodeAt s at ≡ Whole r n → Within n
+  pub whole-within : {r : Call} {n : ℕ} → decodeAt s at ≡ Whole r n → Within n
   whole-within {r} {n} e =
       below-or-not at (length s)
       (λ h.

@@ -1,8 +1,5 @@
 pub mod Bodies
-pub mod Buffer
-pub mod Decimal
 pub mod Decoding
-pub mod Filling
 pub mod Little
 pub mod Pieces
 pub mod Texts

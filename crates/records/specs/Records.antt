@@ -1,4 +1,5 @@
--- Document 01, "Replay records": one byte of kind, then a body whose length the kind fixes, little endian.
+-- Document 01, "Replay records": one byte of kind, then a body whose length the kind fixes, little endian. A record stands for a call; a
+-- boot's text is empty.
 use Prim.Native.Nat.{ℕ, zero, suc, _+_, _-_, _*_}
 use mathlib.Core.Bool.{not}
 use mathlib.Core.List.{List, [], _∷_}
@@ -6,8 +7,8 @@ use lib.ListN.{length, getD}
 use lib.Dec.{ltb, leb, eqb}
 use Rattle.search.specs.Choice.{if_then_else_}
 use Rattle.frames.specs.Units.{frame}
-use Rattle.records.specs.declared.Record.{Record}
-use Rattle.records.specs.declared.Record.the-variants.{Boot, PutMovable, PutFixed, Drop, Pin, Unpin, Store, Read, Grant, Release, DeviceStore, DeviceRead, Declare}
+use Rattle.rules.specs.declared.Call.{Call}
+use Rattle.rules.specs.declared.Call.the-variants as Call
 use Rattle.records.specs.declared.Decoded.{Decoded}
 use Rattle.records.specs.declared.Decoded.the-variants.{Whole, Unknown, Cut}
 
@@ -16,12 +17,12 @@ unfoldable pub little : List ℕ → ℕ → ℕ → ℕ
 little s at zero = 0
 little s at (suc n) = getD s at 0 + 256 * little s (suc at) n
 
--- a body: the widths of its fields, and the record that their numbers give, by place
+-- a body: the widths of its fields, and the call that their numbers give, by place
 pub record Body : Type 0 where
   pub widths : List ℕ
-  pub gives : (ℕ → ℕ) → Record
+  pub gives : (ℕ → ℕ) → Call
 
-abbrev pub body : List ℕ → ((ℕ → ℕ) → Record) → Body
+abbrev pub body : List ℕ → ((ℕ → ℕ) → Call) → Body
 body ws f = record { widths = ws; gives = f }
 
 abbrev pub u8 : ℕ
@@ -34,30 +35,31 @@ abbrev pub u64 : ℕ
 u64 = 8
 
 -- a body of one field, a page's name
-abbrev pub named : (ℕ → Record) → Body
+abbrev pub named : (ℕ → Call) → Body
 named f = body (u32 ∷ []) (λ n. f (n 0))
 
 -- the bodies by kind, 0 to 12
 unfoldable pub bodies : List Body
 bodies =
-    body (u64 ∷ u32 ∷ u8 ∷ []) (λ n. Boot (frame (n 0)) (n 1) (n 2)) ∷
-    named PutMovable ∷
-    named PutFixed ∷
-    named Drop ∷
-    named Pin ∷
-    named Unpin ∷
-    body (u32 ∷ u64 ∷ []) (λ n. Store (n 0) (n 1)) ∷
-    named Read ∷
-    body (u8 ∷ u8 ∷ u32 ∷ []) (λ n. Grant (n 0) (n 1) (n 2)) ∷
-    body (u8 ∷ u64 ∷ u32 ∷ []) (λ n. Release (n 0) (frame (n 1)) (n 2)) ∷
-    body (u64 ∷ u64 ∷ []) (λ n. DeviceStore (frame (n 0)) (n 1)) ∷
-    body (u64 ∷ []) (λ n. DeviceRead (frame (n 0))) ∷
-    body (u64 ∷ u64 ∷ u64 ∷ u64 ∷ u8 ∷ u8 ∷ []) (λ n. Declare (n 0) (n 1) (n 2) (n 3) (n 4) (not (eqb (n 5) 0))) ∷
+    body (u64 ∷ u32 ∷ u8 ∷ []) (λ n. Call.Boot (frame (n 0)) (n 1) (n 2)) ∷
+    named Call.PutMovable ∷
+    named Call.PutFixed ∷
+    named Call.Drop ∷
+    named Call.Pin ∷
+    named Call.Unpin ∷
+    body (u32 ∷ u64 ∷ []) (λ n. Call.Store (n 0) (n 1)) ∷
+    named Call.Read ∷
+    body (u8 ∷ u8 ∷ u32 ∷ []) (λ n. Call.Grant (n 0) (n 2) (n 1)) ∷
+    body (u8 ∷ u64 ∷ u32 ∷ []) (λ n. Call.Release (n 0) (frame (n 1)) (n 2)) ∷
+    body (u64 ∷ u64 ∷ []) (λ n. Call.DeviceStore (frame (n 0)) (n 1)) ∷
+    body (u64 ∷ []) (λ n. Call.DeviceRead (frame (n 0))) ∷
+    body (u64 ∷ u64 ∷ u64 ∷ u64 ∷ u8 ∷ u8 ∷ [])
+    (λ n. Call.Declare record { base = n 0; size = n 1; limit = n 2; alignment = n 3; «order_per_bit» = n 4; fixed = not (eqb (n 5) 0) }) ∷
     []
 
 -- the body of a kind; an unknown kind, past the list, has none
 unfoldable pub bodyOf : ℕ → Body
-bodyOf kind = getD bodies kind (body [] (λ n. Read 0))
+bodyOf kind = getD bodies kind (body [] (λ n. Call.Read 0))
 
 unfoldable pub sum : List ℕ → ℕ
 sum [] = 0
@@ -72,8 +74,8 @@ numbers s at o (w ∷ ws) = little s (at + o) w ∷ numbers s at (o + w) ws
 unfoldable pub bodyLength : ℕ → ℕ
 bodyLength kind = sum (bodyOf kind .widths)
 
--- the record that the body of a kind gives, read from `at` on
-unfoldable pub bodyAt : ℕ → List ℕ → ℕ → Record
+-- the call that the body of a kind gives, read from `at` on
+unfoldable pub bodyAt : ℕ → List ℕ → ℕ → Call
 bodyAt kind s at = bodyOf kind .gives (λ i. getD (numbers s at 0 (bodyOf kind .widths)) i 0)
 
 -- the record that begins at an offset; it is cut where the bytes end before its body does

@@ -1,4 +1,4 @@
-// Document 01, "Replay records": one record read from bytes, and in `lines` the text that is written for it.
+// Document 01, "Replay records": the call that a record stands for, read from bytes, and in `lines` the text that is written for it.
 ghost use mathlib.Core.Path.{_≡_};
 ghost use Prim.Native.Nat.{_+_, _≤_, _<_};
 ghost use lib.ListN.{length};
@@ -7,67 +7,13 @@ ghost use Rattle.records.specs.Records.{little, bodyLength, bodyAt, deco
 pub mod lines;
 
 use frames::Frame;
-
-// A record's kind with the numbers of its body.
-pub enum Record {
-    Boot {
-        base: Frame,
-        frames: u64,
-        order: u64,
-    },
-    PutMovable {
-        name: u64,
-    },
-    PutFixed {
-        name: u64,
-    },
-    Drop {
-        name: u64,
-    },
-    Pin {
-        name: u64,
-    },
-    Unpin {
-        name: u64,
-    },
-    Store {
-        name: u64,
-        word: u64,
-    },
-    Read {
-        name: u64,
-    },
-    Grant {
-        area: u64,
-        order: u64,
-        count: u64,
-    },
-    Release {
-        area: u64,
-        frame: Frame,
-        count: u64,
-    },
-    DeviceStore {
-        frame: Frame,
-        word: u64,
-    },
-    DeviceRead {
-        frame: Frame,
-    },
-    Declare {
-        base: u64,
-        size: u64,
-        limit: u64,
-        alignment: u64,
-        order: u64,
-        fixed: bool,
-    },
-}
+use rules::Call;
+use rules::Request;
 
 // What stands at an offset.
 pub enum Decoded {
-    // A whole record, and its length with the byte of kind.
-    Whole(Record, usize),
+    // The call of a whole record, and the record's length with the byte of kind. A boot has the empty text.
+    Whole(Call, usize),
     // A byte that is no kind.
     Unknown,
     // The bytes end before the body does.
@@ -111,103 +57,104 @@ fn number(bytes: &[u8], at: usize, width: usize) -> u64
     value
 }
 
-fn boot(bytes: &[u8], at: usize) -> Record
+fn boot(bytes: &[u8], at: usize) -> Call
     requires { ⌜ at + 13 ≤ length (now bytes) ⌝ }
     ensures { λ r. ⌜ r ≡ bodyAt 0 (now (bytes .entry)) at ⌝ }
 {
-    Record::Boot {
+    Call::Boot {
         base: Frame(number(bytes, at, 8)),
         frames: number(bytes, at + 8, 4),
-        order: number(bytes, at + 12, 1),
+        block_order: number(bytes, at + 12, 1),
     }
 }
 
-fn store(bytes: &[u8], at: usize) -> Record
+fn store(bytes: &[u8], at: usize) -> Call
     requires { ⌜ at + 12 ≤ length (now bytes) ⌝ }
     ensures { λ r. ⌜ r ≡ bodyAt 6 (now (bytes .entry)) at ⌝ }
 {
-    Record::Store {
+    Call::Store {
         name: number(bytes, at, 4),
         word: number(bytes, at + 4, 8),
     }
 }
 
-fn grant(bytes: &[u8], at: usize) -> Record
+fn grant(bytes: &[u8], at: usize) -> Call
     requires { ⌜ at + 6 ≤ length (now bytes) ⌝ }
     ensures { λ r. ⌜ r ≡ bodyAt 8 (now (bytes .entry)) at ⌝ }
 {
-    Record::Grant {
+    Call::Grant {
         area: number(bytes, at, 1),
-        order: number(bytes, at + 1, 1),
         count: number(bytes, at + 2, 4),
+        align: number(bytes, at + 1, 1),
     }
 }
 
-fn release(bytes: &[u8], at: usize) -> Record
+fn release(bytes: &[u8], at: usize) -> Call
     requires { ⌜ at + 13 ≤ length (now bytes) ⌝ }
     ensures { λ r. ⌜ r ≡ bodyAt 9 (now (bytes .entry)) at ⌝ }
 {
-    Record::Release {
+    Call::Release {
         area: number(bytes, at, 1),
         frame: Frame(number(bytes, at + 1, 8)),
         count: number(bytes, at + 9, 4),
     }
 }
 
-fn device_store(bytes: &[u8], at: usize) -> Record
+fn device_store(bytes: &[u8], at: usize) -> Call
     requires { ⌜ at + 16 ≤ length (now bytes) ⌝ }
     ensures { λ r. ⌜ r ≡ bodyAt 10 (now (bytes .entry)) at ⌝ }
 {
-    Record::DeviceStore {
+    Call::DeviceStore {
         frame: Frame(number(bytes, at, 8)),
         word: number(bytes, at + 8, 8),
     }
 }
 
-fn declare(bytes: &[u8], at: usize) -> Record
+fn declare(bytes: &[u8], at: usize) -> Call
     requires { ⌜ at + 34 ≤ length (now bytes) ⌝ }
     ensures { λ r. ⌜ r ≡ bodyAt 12 (now (bytes .entry)) at ⌝ }
 {
-    Record::Declare {
+    let request = Request {
         base: number(bytes, at, 8),
         size: number(bytes, at + 8, 8),
         limit: number(bytes, at + 16, 8),
         alignment: number(bytes, at + 24, 8),
-        order: number(bytes, at + 32, 1),
+        order_per_bit: number(bytes, at + 32, 1),
         fixed: number(bytes, at + 33, 1) != 0,
-    }
+    };
+    Call::Declare { request }
 }
 
-// The record of a known kind whose whole body starts at `at`.
-fn body(bytes: &[u8], at: usize, kind: u8) -> Record
+// The call of a record of a known kind whose whole body starts at `at`.
+fn body(bytes: &[u8], at: usize, kind: u8) -> Call
     requires { ⌜ (at + bodyLength kind ≤ length (now bytes)) × (kind < 13) ⌝ }
     ensures { λ r. ⌜ r ≡ bodyAt kind (now (bytes .entry)) at ⌝ }
 {
     match kind {
         0 => boot(bytes, at),
-        1 => Record::PutMovable {
+        1 => Call::PutMovable {
             name: number(bytes, at, 4),
         },
-        2 => Record::PutFixed {
+        2 => Call::PutFixed {
             name: number(bytes, at, 4),
         },
-        3 => Record::Drop {
+        3 => Call::Drop {
             name: number(bytes, at, 4),
         },
-        4 => Record::Pin {
+        4 => Call::Pin {
             name: number(bytes, at, 4),
         },
-        5 => Record::Unpin {
+        5 => Call::Unpin {
             name: number(bytes, at, 4),
         },
         6 => store(bytes, at),
-        7 => Record::Read {
+        7 => Call::Read {
             name: number(bytes, at, 4),
         },
         8 => grant(bytes, at),
         9 => release(bytes, at),
         10 => device_store(bytes, at),
-        11 => Record::DeviceRead {
+        11 => Call::DeviceRead {
             frame: Frame(number(bytes, at, 8)),
         },
         _ => declare(bytes, at),

@@ -1,7 +1,4 @@
-pub mod Capping
-pub mod Classes
+pub mod Judging
 pub mod Listing
 pub mod Naming
-pub mod Numbers
 pub mod Refusals
-pub mod Sequence

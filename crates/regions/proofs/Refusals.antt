@@ -12,11 +12,15 @@ use lib.ListN.{length}
 use Rattle.search.specs.Choice.{if_then_else_}
 use Rattle.regions.specs.declared.Region.{Region}
 use Rattle.regions.specs.declared.Regions.{Regions}
-use Rattle.regions.specs.Reading.{Read, gives, refuses, _then_, refuseIf}
-use Rattle.regions.specs.Amounts.{byteAt, isDigit, isHex, digits, number, mostBytes, amount}
-use Rattle.regions.specs.Text.{name, nameLength, isNamed, expect, optional, size, start, alignment, isFirstFit, allocator, region, regionsFrom, regions}
-use Rattle.regions.specs.Outcome.{outcome, held}
-use Rattle.regions.proofs.Listing.{held-outcome, length-snoc}
+use Rattle.text.specs.Bytes.{byteAt}
+use Rattle.text.specs.Names.{name, nameLength}
+use Rattle.text.specs.Numbers.{isDigit, isHex, digits, number, mostBytes}
+use Rattle.text.specs.Reading.{Read, gives, refuses, _then_, refuseIf}
+use Rattle.regions.specs.Amounts.{amount}
+use Rattle.regions.specs.Text.{isNamed, expect, optional, size, start, alignment, isFirstFit, allocator, region, mostText, mostRegions, regionsFrom, regions}
+use Rattle.regions.specs.Result.{resultOf}
+use Rattle.regions.specs.steps.Progress.{held}
+use Rattle.regions.proofs.Listing.{held-result, length-snoc}
 
 -- what is given has a property, and a refusal's number is above 0
 abbrev pub Sound : {A : Type 0} → (A → Type 0) → Read A → Type 0
@@ -90,9 +94,9 @@ module _ (s : List ℕ) where
       (λ to at₄ _. sound-then Any Any (optional 58 allocator 0 s at₄) _ (sound-optional 58 allocator at₄ sound-allocator) (λ _ at₅ _. tt))))))
 
   abbrev Few : List Region → Type 0
-  Few rs = length rs ≤ 8
+  Few rs = length rs ≤ mostRegions
 
-  sound-from : (more : ℕ) (before : List Region) (at : ℕ) → length before + more ≤ 8 → Sound Few (regionsFrom more before s at)
+  sound-from : (more : ℕ) (before : List Region) (at : ℕ) → length before + more ≤ mostRegions → Sound Few (regionsFrom more before s at)
   unfolding regionsFrom
   sound-from zero before at h = sound-if Few (not (eqb at (length s))) 23 at (gives before at) (omega arith) (omega arith)
   sound-from (suc more) before at h =
@@ -105,28 +109,28 @@ module _ (s : List ℕ) where
 
   pub sound-regions : Sound Few (regions s)
   unfolding regions
-  sound-regions = sound-if Few (ltb 1024 (length s)) 24 1024 (regionsFrom 8 [] s 0) (omega arith) (sound-from 8 [] 0 (omega arith))
+  sound-regions = sound-if Few (ltb mostText (length s)) 24 mostText (regionsFrom mostRegions [] s 0) (omega arith) (sound-from mostRegions [] 0 (omega arith))
 
 -- the regions of an answer
 pub record Given (s : List ℕ) (r : Regions) : Type 0 where
   pub end : ℕ
   pub is : regions s ≡ gives (held r) end
   pub count : length (held r) ≡ r .count
-  pub few : r .count ≤ 8
+  pub few : r .count ≤ mostRegions
 
-refused-of : (x : Read (List Region)) (r : Regions) → r ≡ outcome x → (r .refusal ≡ 0 → ⊥) → x ≡ refuses (r .refusal) (r .place)
+refused-of : (x : Read (List Region)) (r : Regions) → r ≡ resultOf x → (r .refusal ≡ 0 → ⊥) → x ≡ refuses (r .refusal) (r .place)
 refused-of (gives rs at) r e h = absurd (h (ap (λ (k : Regions). k .refusal) e))
 refused-of (refuses number at) r e h = rw e
 
-pub answer-refused : (s : List ℕ) (r : Regions) → r ≡ outcome (regions s) → (r .refusal ≡ 0 → ⊥) → regions s ≡ refuses (r .refusal) (r .place)
+pub answer-refused : (s : List ℕ) (r : Regions) → r ≡ resultOf (regions s) → (r .refusal ≡ 0 → ⊥) → regions s ≡ refuses (r .refusal) (r .place)
 answer-refused s r e h = refused-of (regions s) r e h
 
-given-of : (s : List ℕ) (x : Read (List Region)) (r : Regions) → regions s ≡ x → Sound (Few s) x → r ≡ outcome x → r .refusal ≡ 0 → Given s r
+given-of : (s : List ℕ) (x : Read (List Region)) (r : Regions) → regions s ≡ x → Sound (Few s) x → r ≡ resultOf x → r .refusal ≡ 0 → Given s r
 given-of s (gives rs at) r same few e h =
-    let holds : held r ≡ rs = ap held e ∙ held-outcome rs in
+    let holds : held r ≡ rs = ap held e ∙ held-result rs in
     let size : r .count ≡ length rs = ap (λ (k : Regions). k .count) e in
     record { end = at; is = same ∙ ap (λ (l : List Region). gives l at) (sym holds); count = ap length holds ∙ sym size; few = omega arith }
 given-of s (refuses number at) r same above e h = absurd (let zero-number : r .refusal ≡ number = ap (λ (k : Regions). k .refusal) e in omega arith)
 
-pub answer-given : (s : List ℕ) (r : Regions) → r ≡ outcome (regions s) → r .refusal ≡ 0 → Given s r
+pub answer-given : (s : List ℕ) (r : Regions) → r ≡ resultOf (regions s) → r .refusal ≡ 0 → Given s r
 answer-given s r e h = given-of s (regions s) r refl (sound-regions s) e h

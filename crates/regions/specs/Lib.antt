@@ -1,5 +1,4 @@
 pub mod Amounts
-pub mod Outcome
-pub mod Reading
-pub mod Steps
+pub mod Result
 pub mod Text
+pub mod steps

@@ -1,30 +1,15 @@
 -- Document 01, "Regions text": the grammar, with its refusals 20 to 25 and their places.
-use Prim.Native.Nat.{ℕ, zero, suc, _+_, _-_}
-use mathlib.Core.Bool.{Bool, true, false, not, _&&_, _||_}
+use Prim.Native.Nat.{ℕ, zero, suc, _+_}
+use mathlib.Core.Bool.{Bool, false, not, _&&_, _||_}
 use mathlib.Core.List.{List, [], _∷_, _++_}
 use lib.Dec.{ltb, eqb}
 use lib.ListN.{length}
 use Rattle.search.specs.Choice.{if_then_else_}
-use Rattle.search.specs.Search.{lowestFrom, every}
+use Rattle.text.specs.Bytes.{byteAt}
+use Rattle.text.specs.Names.{name, sameBytes}
+use Rattle.text.specs.Reading.{Read, gives, _then_, refuseIf}
 use Rattle.regions.specs.declared.Region.{Region}
-use Rattle.regions.specs.Reading.{Read, gives, refuses, _then_, refuseIf}
-use Rattle.regions.specs.Amounts.{byteAt, isBetween, isAlignment, amount}
-
--- letters, digits, - and _
-unfoldable pub isNameByte : ℕ → Bool
-isNameByte c = isBetween 97 122 c || isBetween 65 90 c || isBetween 48 57 c || eqb c 45 || eqb c 95
-
--- the length of the name at an offset, of 16 bytes at the most
-unfoldable pub nameLength : List ℕ → ℕ → ℕ
-nameLength s at = lowestFrom (λ i. not (isNameByte (byteAt s (at + i)))) 0 16
-
--- a name, of one byte at the least: gives its length
-abbrev pub name : List ℕ → ℕ → Read ℕ
-name s at = refuseIf (eqb (nameLength s at) 0) 20 at (gives (nameLength s at) (at + nameLength s at))
-
--- the n bytes at an offset are the n bytes at another
-unfoldable pub sameBytes : List ℕ → ℕ → ℕ → ℕ → Bool
-sameBytes s at other n = every (λ i. eqb (byteAt s (at + i)) (byteAt s (other + i))) 0 n
+use Rattle.regions.specs.Amounts.{isAlignment, amount}
 
 -- one of the regions has the name of n bytes at an offset
 unfoldable pub isNamed : List Region → List ℕ → ℕ → ℕ → Bool

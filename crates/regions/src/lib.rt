@@ -1,17 +1,22 @@
 // The regions text: which areas a boot declares.
 ghost use mathlib.Core.Path.{_≡_};
 ghost use Rattle.regions.specs.Amounts.{isAlignment};
-ghost use Rattle.regions.specs.Outcome.{outcome, Holding, begun, oneMore};
 ghost use Rattle.regions.specs.Text.{regions};
+ghost use Rattle.regions.specs.Result.{resultOf};
+ghost use Rattle.regions.specs.steps.Progress.{Holding, begun, oneMore};
 
 mod amounts;
-mod bytes;
 mod list;
 mod names;
 mod parts;
 
-pub use amounts::MOST_BYTES;
 use list::Progress;
+
+// The longest text, in bytes.
+pub const MOST_TEXT: usize = 1024;
+
+// How many regions a text may give.
+pub const MOST_REGIONS: usize = 8;
 
 // A region of the text: where its name stands and how long it is, and its amounts in bytes; an amount that is not given is 0.
 pub struct Region {
@@ -27,7 +32,7 @@ pub struct Regions {
     pub refusal: u64,
     pub place: usize,
     pub count: usize,
-    pub list: [Region; 8],
+    pub list: [Region; MOST_REGIONS],
 }
 
 // An alignment is 0, where none is asked, or a power of two.
@@ -78,7 +83,7 @@ impl<'a> Reader<'a> {
 
 // The regions of a text. The reader reads on, one region after the other, for as long as there is more to read.
 pub fn read_regions(text: &[u8]) -> Regions
-    ensures { λ r. ⌜ r ≡ outcome (regions (now (text .entry))) ⌝ }
+    ensures { λ r. ⌜ r ≡ resultOf (regions (now (text .entry))) ⌝ }
 {
     let mut reader = Reader::new(text);
     while reader.progress.more {

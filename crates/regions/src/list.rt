@@ -1,20 +1,20 @@
 // The regions of a text, one after the other.
 ghost use mathlib.Core.Path.{_≡_};
 ghost use mathlib.Core.List.{[], _∷_, _++_};
-ghost use Prim.Native.Nat.{_<_, _≤_};
-ghost use Rattle.regions.specs.Reading.{gives, refuses};
-ghost use Rattle.regions.specs.Steps.{regionRead, separatedFrom, nextRegion};
-ghost use Rattle.regions.specs.Outcome.{held, Holding, outcome, noRegion, finished, begun, oneMore};
+ghost use Prim.Native.Nat.{_<_};
+ghost use Rattle.text.specs.Reading.{gives, refuses};
+ghost use Rattle.regions.specs.Text.{mostRegions};
+ghost use Rattle.regions.specs.Result.{resultOf, noRegion};
+ghost use Rattle.regions.specs.steps.Parts.{regionRead, separatedFrom, nextRegion};
+ghost use Rattle.regions.specs.steps.Progress.{held, Holding, finished, begun, oneMore};
+use crate::MOST_REGIONS;
+use crate::MOST_TEXT;
 use crate::Region;
 use crate::Regions;
-use crate::bytes::byte_at;
 use crate::parts::Found;
 use crate::parts::region_at;
 use answer::refusal;
-
-const MOST_TEXT: usize = 1024;
-
-const MOST_REGIONS: usize = 8;
+use text::bytes::byte_at;
 
 // The ; after a region, or the end of the text.
 fn separated(text: &[u8], at: usize, region: Region) -> Found
@@ -53,21 +53,21 @@ fn no_region() -> Region
 
 // No regions, with a refusal's number and place; both are 0 where nothing is refused.
 fn refused(number: u64, place: usize) -> Regions
-    ensures { λ r. ⌜ r ≡ outcome (refuses number place) ⌝ }
+    ensures { λ r. ⌜ r ≡ resultOf (refuses number place) ⌝ }
 {
     let none = no_region();
     Regions {
         refusal: number,
         place,
         count: 0,
-        list: [none; 8],
+        list: [none; MOST_REGIONS],
     }
 }
 
 // The regions, with one more after them.
 fn with(known: Regions, region: Region) -> Regions
-    requires { ⌜ (known .count < 8) × (Holding known) ⌝ }
-    ensures { λ r. ⌜ r ≡ outcome (gives (held known ++ (region ∷ [])) 0) ⌝ }
+    requires { ⌜ (known .count < mostRegions) × (Holding known) ⌝ }
+    ensures { λ r. ⌜ r ≡ resultOf (gives (held known ++ (region ∷ [])) 0) ⌝ }
 {
     let mut more = known;
     let i = more.count;

@@ -1,47 +1,17 @@
-// Names of a text: of regions, and of their allocator.
+// Names of regions, and of their allocator.
 ghost use mathlib.Core.Path.{_≡_};
-ghost use mathlib.Core.Bool.{_&&_};
-ghost use Prim.Native.Nat.{_-_, _≤_};
-ghost use lib.Dec.{eqb};
-ghost use lib.ListN.{length};
-ghost use Rattle.regions.specs.Text.{nameLength, sameBytes, isNamed, isFirstFit, allocator};
-ghost use Rattle.regions.specs.Steps.{scanned, sameName, heading};
-ghost use Rattle.regions.specs.Outcome.{held, Holding};
+ghost use Rattle.text.specs.Reading.{scanned};
+ghost use Rattle.regions.specs.Text.{isNamed, isFirstFit, allocator};
+ghost use Rattle.regions.specs.steps.Parts.{sameName, newName};
+ghost use Rattle.regions.specs.steps.Progress.{held, Holding};
 use crate::Region;
 use crate::Regions;
-use crate::amounts::Scan;
-use crate::bytes::byte_after;
-use crate::bytes::byte_at;
-use crate::bytes::is_name_byte;
 use answer::refusal;
-
-const LONGEST_NAME: usize = 16;
-
-fn name_length(text: &[u8], at: usize) -> usize
-    ensures { λ r. ⌜ (r ≡ nameLength (now (text .entry)) at) × (r ≤ length (now (text .entry)) - at) ⌝ }
-{
-    let mut n = 0;
-    while n < LONGEST_NAME {
-        if !is_name_byte(byte_after(text, at, n)) {
-            return n;
-        }
-        n += 1;
-    }
-    n
-}
-
-fn same_bytes(text: &[u8], at: usize, other: usize, n: usize) -> bool
-    ensures { λ r. ⌜ r ≡ sameBytes (now (text .entry)) at other n ⌝ }
-{
-    let mut i = 0;
-    while i < n {
-        if byte_after(text, at, i) != byte_after(text, other, i) {
-            return false;
-        }
-        i += 1;
-    }
-    true
-}
+use text::Scan;
+use text::bytes::byte_after;
+use text::bytes::byte_at;
+use text::names::name_length;
+use text::names::same_bytes;
 
 fn same_name(text: &[u8], at: usize, n: usize, region: Region) -> bool
     ensures { λ r. ⌜ r ≡ sameName region (now (text .entry)) at n ⌝ }
@@ -69,9 +39,9 @@ fn is_named(text: &[u8], at: usize, n: usize, known: Regions) -> bool
 }
 
 // A name that no region has yet, and the = after it: gives its length.
-pub fn heading(text: &[u8], at: usize, known: Regions) -> Scan
+pub fn new_name(text: &[u8], at: usize, known: Regions) -> Scan
     requires { ⌜ Holding known ⌝ }
-    ensures { λ r. ⌜ scanned r ≡ heading (held known) (now (text .entry)) at ⌝ }
+    ensures { λ r. ⌜ scanned r ≡ newName (held known) (now (text .entry)) at ⌝ }
 {
     let n = name_length(text, at);
     if n == 0 {

@@ -1,18 +1,19 @@
 // A region, part by part: each function reads one part and hands what is left to the next.
 ghost use mathlib.Core.Path.{_≡_};
-ghost use Prim.Native.Nat.{_<_, _≤_};
+ghost use Prim.Native.Nat.{_<_};
+ghost use Rattle.text.specs.Reading.{scanned};
 ghost use Rattle.regions.specs.Amounts.{amount};
 ghost use Rattle.regions.specs.Text.{optional, allocator, region};
-ghost use Rattle.regions.specs.Steps.{scanned, wrongFor, regionRead, allocatedFrom, alignedFrom, startedFrom, sizedFrom, bareRegion};
-ghost use Rattle.regions.specs.Outcome.{held, Holding};
+ghost use Rattle.regions.specs.steps.Parts.{wrongFor, regionRead, allocatedFrom, alignedFrom, startedFrom, sizedFrom, bareRegion};
+ghost use Rattle.regions.specs.steps.Progress.{held, Holding};
 use crate::Region;
 use crate::Regions;
 use crate::amounts::Purpose;
-use crate::amounts::Scan;
 use crate::amounts::amount;
-use crate::bytes::byte_at;
 use crate::names::allocator;
-use crate::names::heading;
+use crate::names::new_name;
+use text::Scan;
+use text::bytes::byte_at;
 
 // What reading a region gives: the region and the offset after it, or a refusal's number and its place.
 pub enum Found {
@@ -104,7 +105,7 @@ pub fn region_at(text: &[u8], at: usize, known: Regions) -> Found
     requires { ⌜ Holding known ⌝ }
     ensures { λ r. ⌜ regionRead r ≡ region (held known) (now (text .entry)) at ⌝ }
 {
-    match heading(text, at, known) {
+    match new_name(text, at, known) {
         Scan::Refuses(refusal, place) => Found::Refuses(refusal, place),
         Scan::Gives(n, next) => sized(text, next, bare_region(at, n as usize)),
     }

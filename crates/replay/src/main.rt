@@ -5,7 +5,7 @@
 ghost use mathlib.Core.Path.{_≡_};
 ghost use Prim.Native.Nat.{_+_, _≤_, _<_};
 ghost use lib.ListN.{length};
-ghost use Rattle.replay.specs.Bounds.{Bounds, Next};
+ghost use Rattle.replay.specs.steps.Bounds.{block, Bounds, Next};
 use libc::STDIN_FILENO;
 use libc::STDOUT_FILENO;
 use machine::Machine;
@@ -13,6 +13,9 @@ use playback::Progress;
 use playback::Stop;
 use playback::held;
 use records::lines;
+
+// The bytes of a block of input, and of the text that is written for it at once.
+const BLOCK: usize = 65536;
 
 // A proved loop has to end, and nothing says that the input does: so the loop has a budget of turns, which no run uses up, and of which each
 // takes at most a block of input.
@@ -95,7 +98,7 @@ fn read_from(input: &mut [u8], from: usize) -> usize
 
 // The next block: the record that was cut, if any, and what is read after it. It is shorter than a block, so there is room to read.
 fn refill(input: &mut [u8], s: State) -> State
-    requires { ⌜ Bounds s × (length (now input) ≡ 65536) ⌝ }
+    requires { ⌜ Bounds s × (length (now input) ≡ block) ⌝ }
     ensures { λ r. ⌜ Next s r ⌝ }
 {
     let at = s.at;
@@ -133,7 +136,7 @@ fn flush(out: &[u8], text: usize, s: State) -> State
 
 // Writes the text and fetches more input.
 fn go_on(input: &mut [u8], out: &[u8], text: usize, s: State) -> State
-    requires { ⌜ Bounds s × (length (now input) ≡ 65536) × (text ≤ length (now out)) ⌝ }
+    requires { ⌜ Bounds s × (length (now input) ≡ block) × (text ≤ length (now out)) ⌝ }
     ensures { λ r. ⌜ Next s r ⌝ }
 {
     if write_text(out, text) {
@@ -164,7 +167,7 @@ fn finish(out: &mut [u8], text: usize, s: State) -> State
 
 // Every byte is read, or a record is cut: the input's end decides.
 fn at_end(input: &mut [u8], out: &mut [u8], text: usize, s: State, cut: bool) -> State
-    requires { ⌜ Bounds s × (length (now input) ≡ 65536) × (text ≤ length (now out)) ⌝ }
+    requires { ⌜ Bounds s × (length (now input) ≡ block) × (text ≤ length (now out)) ⌝ }
     ensures { λ r. ⌜ Next s r ⌝ }
 {
     if !s.ended {
@@ -178,7 +181,7 @@ fn at_end(input: &mut [u8], out: &mut [u8], text: usize, s: State, cut: bool) ->
 
 // What follows by the reason that the records stopped.
 fn after(input: &mut [u8], out: &mut [u8], text: usize, s: State, why: Stop) -> State
-    requires { ⌜ Bounds s × (length (now input) ≡ 65536) × (text ≤ length (now out)) ⌝ }
+    requires { ⌜ Bounds s × (length (now input) ≡ block) × (text ≤ length (now out)) ⌝ }
     ensures { λ r. ⌜ Next s r ⌝ }
 {
     match why {
@@ -198,7 +201,7 @@ fn turn(
     bitmap: &mut [u64],
     s: State,
 ) -> State
-    requires { ⌜ Bounds s × (length (now input) ≡ 65536) × (0 < s .left) ⌝ }
+    requires { ⌜ Bounds s × (length (now input) ≡ block) × (0 < s .left) ⌝ }
     ensures { λ r. ⌜ Bounds r × (r .left < s .left) ⌝ }
 {
     let filled = s.filled;
@@ -234,8 +237,8 @@ fn write_heading() {
 }
 
 fn main() {
-    let mut input = [0u8; 65536];
-    let mut out = [0u8; 65536];
+    let mut input = [0u8; BLOCK];
+    let mut out = [0u8; BLOCK];
     let mut marks = held::marks();
     let mut words = held::words();
     let mut bitmap = held::bitmap();

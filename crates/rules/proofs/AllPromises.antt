@@ -1,7 +1,7 @@
 -- The calls keep all their promises. Assumes nothing. Modules are checked in the order of their names, each after those that it uses: this
 -- one comes first, so that a wrong definition is refused by the promise that it breaks, before the ledger's theorem.
 use Rattle.rules.specs.promises.All.{AllPromises}
-use Rattle.rules.proofs.promises.Bitmaps.{bitmap-layout}
+use Rattle.rules.proofs.promises.Bitmaps.{area-layout, bitmap-layout}
 use Rattle.rules.proofs.promises.BootNumbers.{boot-answers-place}
 use Rattle.rules.proofs.promises.Boots.{boot-looks-at-lengths, accepted-boot}
 use Rattle.rules.proofs.promises.DeclaredShape.{declare-keeps-shape}
@@ -16,17 +16,19 @@ use Rattle.rules.proofs.promises.Grants.{grant-is-first-fit}
 use Rattle.rules.proofs.promises.Pages.{accepted-put-movable, accepted-put-fixed, live-if-stands, accepted-drop, accepted-pin, accepted-unpin, accepted-store, accepted-read, store-then-read, pinned-pages-stay}
 use Rattle.rules.proofs.promises.Releases.{accepted-release}
 use Rattle.rules.proofs.promises.Taken.{accepted-grant, freed-room-is-used}
-use Rattle.rules.proofs.promises.Unchanged.{refusal-changes-nothing}
+use Rattle.rules.proofs.promises.Unchanged.{refusal-changes-nothing, text-is-boots}
 
 pub all-promises : AllPromises
 all-promises =
     record {
       shape = shape-is-right;
+      areas = area-layout;
       bitmaps = bitmap-layout;
       numbers = refused-exactly;
       refusal-zeros = refusal-has-zeros;
       boot-place = boot-answers-place;
       refusal = refusal-changes-nothing;
+      text = text-is-boots;
       put-movable = accepted-put-movable;
       put-fixed = accepted-put-fixed;
       live = live-if-stands;

@@ -13,10 +13,10 @@ use lib.Dec.{ltb}
 use borrow.Author.Tests.{ltb-true}
 use Rattle.search.proofs.Bools.{by-cases, and-left, and-right}
 use Rattle.frames.specs.Tables.{Tables}
-use Rattle.rules.specs.Record.{Machine}
+use Rattle.rules.specs.declared.Record.{Record}
 use Rattle.rules.specs.Outcomes.{Outcome, Check, refuse, checked, First, here, there, Passed}
 
-module _ (m : Machine) (t : Tables) where
+module _ (m : Record) (t : Tables) where
   pub checked-stop : (c : Check) (cs : List Check) (o : Outcome) → c .holds ≡ true → checked m t (c ∷ cs) o ≡ refuse m t (c .number)
   unfolding checked
   checked-stop c cs o e = rw e
@@ -53,7 +53,7 @@ first-numbered z (here {c} {cs} e) = ltb-true 0 (c .number) (and-left (ltb 0 (c 
 first-numbered z (there {c} {cs} e f) = first-numbered (and-right (ltb 0 (c .number)) (numbered cs) z) f
 
 pub checked-cases :
-    (P : Outcome → Type 0) (m : Machine) (t : Tables) (cs : List Check) (o : Outcome) →
+    (P : Outcome → Type 0) (m : Record) (t : Tables) (cs : List Check) (o : Outcome) →
     numbered cs ≡ true → ((number : ℕ) → 0 < number → P (refuse m t number)) → (Passed cs → P o) → P (checked m t cs o)
 unfolding checked
 checked-cases P m t [] o nums refused passed = passed tt
@@ -63,11 +63,11 @@ checked-cases P m t (c ∷ cs) o nums refused passed =
 
 -- what holds of the call where it passed holds of what it does where it is accepted
 pub accepted-does :
-    (P : Outcome → Type 0) (m : Machine) (t : Tables) (cs : List Check) (o : Outcome) →
+    (P : Outcome → Type 0) (m : Record) (t : Tables) (cs : List Check) (o : Outcome) →
     numbered cs ≡ true → checked m t cs o .answer .refusal ≡ 0 → (Passed cs → P o) → P (checked m t cs o)
 accepted-does P m t cs o nums accepted does =
     checked-cases (λ x. x .answer .refusal ≡ 0 → P x) m t cs o nums (λ number h e. absurd (omega arith)) (λ passed e. does passed) accepted
 
 pub accepted-passed :
-    (m : Machine) (t : Tables) (cs : List Check) (o : Outcome) → numbered cs ≡ true → checked m t cs o .answer .refusal ≡ 0 → Passed cs
+    (m : Record) (t : Tables) (cs : List Check) (o : Outcome) → numbered cs ≡ true → checked m t cs o .answer .refusal ≡ 0 → Passed cs
 accepted-passed m t cs o nums accepted = accepted-does (λ _. Passed cs) m t cs o nums accepted (λ passed. passed)

@@ -4,6 +4,7 @@ pub mod BareShape
 pub mod Checks
 pub mod Divisions
 pub mod EachCall
+pub mod FirstWords
 pub mod NewArea
 pub mod Placed
 pub mod Placement

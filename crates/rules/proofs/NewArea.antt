@@ -3,21 +3,21 @@
 use Prim.Native.Nat.{ℕ, zero, suc, _+_, _-_, _≤_, _<_}
 use native.Mathlib.Omega.{arith}
 use mathlib.Core.Bool.{Bool, true, false, not, _&&_}
-use mathlib.Core.List.{List}
 use mathlib.Core.Path.{_≡_, refl, ap, _∙_}
 use lib.Dec.{leb, ltb}
 use lib.ListN.{length}
-use lib.Seq.{getD-set-same, getD-set-other}
 use borrow.Author.Tests.{leb-true, leb-false, ltb-true}
 use Rattle.search.specs.Search.{every, some}
 use Rattle.search.proofs.Bools.{by-cases, below-or-not, clash, and-left, and-right, and-both, or-left, or-right, not-flips}
 use Rattle.search.proofs.Ranges.{all-every, some-no, none-some, every-cong}
 use Rattle.frames.specs.declared.Area.{Area}
 use Rattle.frames.specs.Units.{place}
-use Rattle.frames.specs.Areas.{endOf, holdsFrame, areDisjoint, noArea, areaIn, inAreas, wordCount, firstWord}
+use Rattle.frames.specs.Areas.{endOf, holdsFrame, areDisjoint, areaIn, inAreas, wordCount, firstWord}
 use Rattle.frames.specs.Tables.{Tables}
-use Rattle.rules.specs.Record.{Machine, areaAt, frameAt, isOrdinary}
-use Rattle.rules.specs.Limits.{mostAreas}
+use Rattle.frames.proofs.AreaNumbers.{area-set-same, area-set-other}
+use Rattle.rules.specs.declared.Record.{Record}
+use Rattle.rules.specs.Record.{areaAt, frameAt, isOrdinary}
+use Rattle.rules.specs.Limits.{mostAreas, mostAreaNumbers}
 use Rattle.rules.specs.Shape.{areaRight, areaFits, wordsNeeded, shapeRight}
 use Rattle.rules.specs.PageCalls.{isFree, freeOrdinary}
 use Rattle.rules.specs.Declare.{withArea}
@@ -25,17 +25,17 @@ use Rattle.rules.proofs.Shapes.{shape-known}
 use Rattle.rules.proofs.AreaRight.{AreaFacts, area-facts, facts-right, in-area, ordinary-free, ordinary-is}
 use Rattle.rules.proofs.ShapeFacts.{shape-memory, facts-shape}
 
-module _ (m : Machine) (t : Tables) (a : Area) (shape : shapeRight m t ≡ true) (records : length (m .areas) ≡ mostAreas) (more : m .declared < mostAreas) where
-  abbrev m′ : Machine
+module _ (m : Record) (t : Tables) (a : Area) (shape : shapeRight m t ≡ true) (records : length (m .areas) ≡ mostAreaNumbers) (more : m .memory .declared < mostAreas) where
+  abbrev m′ : Record
   m′ = withArea m a
 
-  pub area-old : (k : ℕ) → k < m .declared → areaAt m′ k ≡ areaAt m k
-  area-old k h = getD-set-other (m .areas) (m .declared) k a noArea (omega arith)
+  pub area-old : (k : ℕ) → k < m .memory .declared → areaAt m′ k ≡ areaAt m k
+  area-old k h = area-set-other (m .areas) (m .memory .declared) a k (λ e. omega arith)
 
-  pub area-new : areaAt m′ (m .declared) ≡ a
-  area-new = getD-set-same (m .areas) (m .declared) a noArea (omega arith)
+  pub area-new : areaAt m′ (m .memory .declared) ≡ a
+  area-new = area-set-same (m .areas) (m .memory .declared) a (omega arith)
 
-  pub words-old : (k : ℕ) → k ≤ m .declared → firstWord (m′ .areas) k ≡ firstWord (m .areas) k
+  pub words-old : (k : ℕ) → k ≤ m .memory .declared → firstWord (m′ .areas) k ≡ firstWord (m .areas) k
   unfolding firstWord
   words-old zero h = refl
   words-old (suc k) h =
@@ -44,16 +44,16 @@ module _ (m : Machine) (t : Tables) (a : Area) (shape : shapeRight m t ≡ true)
 
   words-new : wordsNeeded m′ ≡ wordsNeeded m + wordCount a
   words-new =
-      last (m .areas) ∙
-      ap (λ (x : ℕ). x + wordCount (areaAt m′ (m .declared))) (words-old (m .declared) (omega arith)) ∙
+      last ∙
+      ap (λ (x : ℕ). x + wordCount (areaAt m′ (m .memory .declared))) (words-old (m .memory .declared) (omega arith)) ∙
       ap (λ (x : Area). wordsNeeded m + wordCount x) area-new
     where
-      last : (areas : List Area) → firstWord (m′ .areas) (suc (m .declared)) ≡ firstWord (m′ .areas) (m .declared) + wordCount (areaAt m′ (m .declared))
-      last areas = unfold firstWord in refl
+      last : firstWord (m′ .areas) (suc (m .memory .declared)) ≡ firstWord (m′ .areas) (m .memory .declared) + wordCount (areaAt m′ (m .memory .declared))
+      last = unfold firstWord in refl
 
-  module _ (right : AreaFacts m a) (vacant : (q : ℕ) → a .base .0 ≤ m .base .0 + q → m .base .0 + q < endOf a → freeOrdinary m t (place q) ≡ true) where
+  module _ (right : AreaFacts m a) (vacant : (q : ℕ) → a .base .0 ≤ m .memory .base .0 + q → m .memory .base .0 + q < endOf a → freeOrdinary m t (place q) ≡ true) where
     -- no frame is in the new area and in another
-    apart : (k : ℕ) → k < m .declared → areDisjoint (areaAt m k) a ≡ true
+    apart : (k : ℕ) → k < m .memory .declared → areDisjoint (areaAt m k) a ≡ true
     apart k h =
         let old = area-facts m t shape k h in
         let some-old = old .some in
@@ -66,31 +66,31 @@ module _ (m : Machine) (t : Tables) (a : Area) (shape : shapeRight m t ≡ true)
         let v = leb-false (endOf a) (areaAt m k .base .0) (or-right (leb (endOf (areaAt m k)) (a .base .0)) (leb (endOf a) (areaAt m k .base .0)) e) in
         below-or-not (a .base .0) (areaAt m k .base .0)
         (λ b.
-        let q = areaAt m k .base .0 - m .base .0 in
+        let q = areaAt m k .base .0 - m .memory .base .0 in
         clash (isOrdinary m (place q)) (ordinary-is m t (place q) (vacant q (omega arith) (omega arith))) (in-area m k q h (omega arith) (omega arith)))
         (λ b.
-        let q = a .base .0 - m .base .0 in
+        let q = a .base .0 - m .memory .base .0 in
         clash (isOrdinary m (place q)) (ordinary-is m t (place q) (vacant q (omega arith) (omega arith))) (in-area m k q h (omega arith) (omega arith))))
 
-    right-same : (x : Area) → areaRight m′ x ≡ areaRight m x
+    right-same : (x : Area) → areaRight (m′ .memory) x ≡ areaRight (m .memory) x
     unfolding areaRight
     right-same x = refl
 
-    fits-old : (k : ℕ) → k < m .declared → areaFits m′ k ≡ areaFits m k
+    fits-old : (k : ℕ) → k < m .memory .declared → areaFits m′ k ≡ areaFits m k
     unfolding areaFits
     fits-old k h =
-        ap (λ (x : Area). areaRight m′ x && every (λ i. areDisjoint (areaAt m′ i) x) 0 k) (area-old k h) ∙
+        ap (λ (x : Area). areaRight (m′ .memory) x && every (λ i. areDisjoint (areaAt m′ i) x) 0 k) (area-old k h) ∙
         ap (λ (b : Bool). b && every (λ i. areDisjoint (areaAt m′ i) (areaAt m k)) 0 k) (right-same (areaAt m k)) ∙
-        ap (λ (b : Bool). areaRight m (areaAt m k) && b)
+        ap (λ (b : Bool). areaRight (m .memory) (areaAt m k) && b)
         (every-cong (λ i. areDisjoint (areaAt m′ i) (areaAt m k)) (λ i. areDisjoint (areaAt m i) (areaAt m k)) 0 k
         (λ i u v. ap (λ (x : Area). areDisjoint x (areaAt m k)) (area-old i (omega arith))))
 
-    fits-new : areaFits m′ (m .declared) ≡ true
+    fits-new : areaFits m′ (m .memory .declared) ≡ true
     unfolding areaFits
     fits-new =
-        ap (λ (x : Area). areaRight m′ x && every (λ i. areDisjoint (areaAt m′ i) x) 0 (m .declared)) area-new ∙
-        and-both (areaRight m′ a) (every (λ i. areDisjoint (areaAt m′ i) a) 0 (m .declared)) (right-same a ∙ facts-right m a right)
-        (all-every (λ i. areDisjoint (areaAt m′ i) a) 0 (m .declared)
+        ap (λ (x : Area). areaRight (m′ .memory) x && every (λ i. areDisjoint (areaAt m′ i) x) 0 (m .memory .declared)) area-new ∙
+        and-both (areaRight (m′ .memory) a) (every (λ i. areDisjoint (areaAt m′ i) a) 0 (m .memory .declared)) (right-same a ∙ facts-right m a right)
+        (all-every (λ i. areDisjoint (areaAt m′ i) a) 0 (m .memory .declared)
         (λ i u v. ap (λ (x : Area). areDisjoint x a) (area-old i (omega arith)) ∙ apart i (omega arith)))
 
     pub new-shape :
@@ -106,11 +106,11 @@ module _ (m : Machine) (t : Tables) (a : Area) (shape : shapeRight m t ≡ true)
           declared = more;
           marks = marks ∙ s .marks-length;
           words = words ∙ s .words-length;
-          areas = all-every (areaFits m′) 0 (suc (m .declared))
+          areas = all-every (areaFits m′) 0 (suc (m .memory .declared))
               (λ k u v.
-              below-or-not k (m .declared)
+              below-or-not k (m .memory .declared)
               (λ h. fits-old k h ∙ s .areas-fit k h)
-              (λ h. let here : k ≡ m .declared = omega arith in rw here fits-new));
+              (λ h. let here : k ≡ m .memory .declared = omega arith in rw here fits-new));
           bitmap = rw (words-new, bitmap) room;
         })
 
@@ -118,23 +118,23 @@ module _ (m : Machine) (t : Tables) (a : Area) (shape : shapeRight m t ≡ true)
     pub still-ordinary : (q : ℕ) → isOrdinary m (place q) ≡ true → isFree t (place q) ≡ false → isOrdinary m′ (place q) ≡ true
     unfolding inAreas
     still-ordinary q e full =
-        let old : some (λ i. holdsFrame (areaIn (m .areas) i) (frameAt m (place q))) 0 (m .declared) ≡ false = not-flips (inAreas (m .areas) (m .declared) (frameAt m (place q))) e in
+        let old : some (λ i. holdsFrame (areaIn (m .areas) i) (frameAt m (place q))) 0 (m .memory .declared) ≡ false = not-flips (inAreas (m .areas) (m .memory .declared) (frameAt m (place q))) e in
         ap not
-        (none-some (λ i. holdsFrame (areaIn (m′ .areas) i) (frameAt m (place q))) 0 (suc (m .declared))
+        (none-some (λ i. holdsFrame (areaIn (m′ .areas) i) (frameAt m (place q))) 0 (suc (m .memory .declared))
         (λ k u v.
-        below-or-not k (m .declared)
+        below-or-not k (m .memory .declared)
         (λ h.
         ap (λ (x : Area). holdsFrame x (frameAt m (place q))) (area-old k h) ∙
-        some-no (λ i. holdsFrame (areaIn (m .areas) i) (frameAt m (place q))) 0 (m .declared) old k (omega arith) (omega arith))
+        some-no (λ i. holdsFrame (areaIn (m .areas) i) (frameAt m (place q))) 0 (m .memory .declared) old k (omega arith) (omega arith))
         (λ h.
-        let here : k ≡ m .declared = omega arith in
+        let here : k ≡ m .memory .declared = omega arith in
         ap (λ (x : ℕ). holdsFrame (areaIn (m′ .areas) x) (frameAt m (place q))) here ∙
         ap (λ (x : Area). holdsFrame x (frameAt m (place q))) area-new ∙
         by-cases (holdsFrame a (frameAt m (place q)))
         (λ y.
         clash (isFree t (place q))
         (ordinary-free m t (place q)
-        (vacant q (leb-true (a .base .0) (m .base .0 + q) (and-left (leb (a .base .0) (m .base .0 + q)) (ltb (m .base .0 + q) (endOf a)) y))
-        (ltb-true (m .base .0 + q) (endOf a) (and-right (leb (a .base .0) (m .base .0 + q)) (ltb (m .base .0 + q) (endOf a)) y))))
+        (vacant q (leb-true (a .base .0) (m .memory .base .0 + q) (and-left (leb (a .base .0) (m .memory .base .0 + q)) (ltb (m .memory .base .0 + q) (endOf a)) y))
+        (ltb-true (m .memory .base .0 + q) (endOf a) (and-right (leb (a .base .0) (m .memory .base .0 + q)) (ltb (m .memory .base .0 + q) (endOf a)) y))))
         full)
         (λ n. n))))

@@ -17,8 +17,10 @@ use Rattle.frames.specs.declared.Area.{Area}
 use Rattle.frames.specs.Units.{place}
 use Rattle.frames.specs.Areas.{ceiling, endOf, wordCount}
 use Rattle.frames.specs.Tables.{Tables}
-use Rattle.rules.specs.Record.{Machine, placeOf}
-use Rattle.rules.specs.Declare.{Request, badRequest, alignmentFor, baseFor, sizeFor, limitFor, isFixed, startByte, endByte, areaFrom, areaFor, isVacant, isOutside, firstMultiple, multiples, fitsAt, highestFit, startFor}
+use Rattle.rules.specs.declared.Request.{Request}
+use Rattle.rules.specs.declared.Record.{Record}
+use Rattle.rules.specs.Record.{placeOf}
+use Rattle.rules.specs.Declare.{badRequest, alignmentFor, baseFor, sizeFor, limitFor, isFixed, startByte, endByte, areaFrom, areaFor, isVacant, isOutside, firstMultiple, multiples, fitsAt, highestFit, startFor}
 use Rattle.rules.specs.Limits.{mostAreas, pageBytes}
 use Rattle.rules.specs.Shape.{wordsNeeded}
 use Rattle.rules.specs.PageCalls.{freeOrdinary}
@@ -27,15 +29,15 @@ use Rattle.rules.proofs.Rounding.{Blocks, asked, alignment-some, limit-
 use Rattle.rules.proofs.AreaRight.{AreaFacts}
 
 -- where an accepted declare puts its area: at a multiple of the alignment, in memory, on vacant frames
-pub record Placed (m : Machine) (r : Request) (t : Tables) : Type 0 where
+pub record Placed (m : Record) (r : Request) (t : Tables) : Type 0 where
   pub at : ℕ
   pub is : startFor m r t ≡ at * alignmentFor m r
   pub low : startByte m ≤ at * alignmentFor m r
   pub high : at * alignmentFor m r + sizeFor m r ≤ endByte m
   pub vacant : isVacant m t (areaFrom m r (at * alignmentFor m r)) ≡ true
 
-module _ (m : Machine) (r : Request) (t : Tables) (good : badRequest r ≡ false) where
-  blocks : Blocks (alignmentFor m r) (m .order)
+module _ (m : Record) (r : Request) (t : Tables) (good : badRequest r ≡ false) where
+  blocks : Blocks (alignmentFor m r) (m .memory .«block_order»)
   blocks = alignment-blocks m r (asked r good .aligned)
 
   at-base :
@@ -92,7 +94,7 @@ module _ (m : Machine) (r : Request) (t : Tables) (good : badRequest r ≡ false
 
   -- ---- the area that it declares
 
-  module _ (order : r .order ≤ m .order) (p : Placed m r t) where
+  module _ (order : r .«order_per_bit» ≤ m .memory .«block_order») (p : Placed m r t) where
     abbrev pub area : Area
     area = areaFrom m r (p .at * alignmentFor m r)
 
@@ -106,23 +108,23 @@ module _ (m : Machine) (r : Request) (t : Tables) (good : badRequest r ≡ false
     pub area-right : AreaFacts m area
     area-right =
         let b = blocks in
-        let from = pages-of (p .at) (alignmentFor m r) (m .order) b in
-        let from-bytes = bytes-of (p .at) (alignmentFor m r) (m .order) b in
-        let count = ap (λ (x : ℕ). x / pageBytes) size-is ∙ pages-of size-times (alignmentFor m r) (m .order) b in
-        let count-bytes = size-is ∙ bytes-of size-times (alignmentFor m r) (m .order) b in
+        let from = pages-of (p .at) (alignmentFor m r) (m .memory .«block_order») b in
+        let from-bytes = bytes-of (p .at) (alignmentFor m r) (m .memory .«block_order») b in
+        let count = ap (λ (x : ℕ). x / pageBytes) size-is ∙ pages-of size-times (alignmentFor m r) (m .memory .«block_order») b in
+        let count-bytes = size-is ∙ bytes-of size-times (alignmentFor m r) (m .memory .«block_order») b in
         let low = p .low in
         let high = p .high in
         record {
-          some = rw size-is (pages-some size-times (alignmentFor m r) (m .order) b (ceiling-some (r .size) (alignmentFor m r) (alignment-some m r) (asked r good .size-some)));
+          some = rw size-is (pages-some size-times (alignmentFor m r) (m .memory .«block_order») b (ceiling-some (r .size) (alignmentFor m r) (alignment-some m r) (asked r good .size-some)));
           order = order;
-          first = pages-multiple (p .at) (alignmentFor m r) (m .order) b;
-          size = rw size-is (pages-multiple size-times (alignmentFor m r) (m .order) b);
+          first = pages-multiple (p .at) (alignmentFor m r) (m .memory .«block_order») b;
+          size = rw size-is (pages-multiple size-times (alignmentFor m r) (m .memory .«block_order») b);
           low = omega arith;
           high = omega arith;
         }
 
     -- each frame of the area is free and ordinary
-    vacant-at : (q : ℕ) → area .base .0 ≤ m .base .0 + q → m .base .0 + q < endOf area → freeOrdinary m t (place q) ≡ true
+    vacant-at : (q : ℕ) → area .base .0 ≤ m .memory .base .0 + q → m .memory .base .0 + q < endOf area → freeOrdinary m t (place q) ≡ true
     unfolding isVacant
     vacant-at q a b =
         let low = area-right .low in
@@ -130,26 +132,26 @@ module _ (m : Machine) (r : Request) (t : Tables) (good : badRequest r ≡ false
 
 -- ---- the checks that it passed
 
-pub record Declarable (m : Machine) (r : Request) (t : Tables) : Type 0 where
-  pub more : m .declared < mostAreas
+pub record Declarable (m : Record) (r : Request) (t : Tables) : Type 0 where
+  pub more : m .memory .declared < mostAreas
   pub right : AreaFacts m (areaFor m r t)
   pub room : wordsNeeded m + wordCount (areaFor m r t) ≤ length (t .bitmap)
-  pub vacant : (q : ℕ) → areaFor m r t .base .0 ≤ m .base .0 + q → m .base .0 + q < endOf (areaFor m r t) → freeOrdinary m t (place q) ≡ true
+  pub vacant : (q : ℕ) → areaFor m r t .base .0 ≤ m .memory .base .0 + q → m .memory .base .0 + q < endOf (areaFor m r t) → freeOrdinary m t (place q) ≡ true
 
 pub declarable :
-    (m : Machine) (r : Request) (t : Tables) →
-    leb mostAreas (m .declared) ≡ false →
+    (m : Record) (r : Request) (t : Tables) →
+    leb mostAreas (m .memory .declared) ≡ false →
     badRequest r ≡ false →
-    ltb (m .order) (r .order) ≡ false →
+    ltb (m .memory .«block_order») (r .«order_per_bit») ≡ false →
     ltb (length (t .bitmap)) (wordsNeeded m + wordCount (areaFor m r t)) ≡ false → Placed m r t → Declarable m r t
 declarable m r t full good order room p =
-    let low : r .order ≤ m .order = ltb-false (m .order) (r .order) order in
+    let low : r .«order_per_bit» ≤ m .memory .«block_order» = ltb-false (m .memory .«block_order») (r .«order_per_bit») order in
     let same : area m r t good low p ≡ areaFor m r t = ap (areaFrom m r) (sym (p .is)) in
     record {
-      more = leb-false mostAreas (m .declared) full;
+      more = leb-false mostAreas (m .memory .declared) full;
       right = subst (AreaFacts m) same (area-right m r t good low p);
       room = ltb-false (length (t .bitmap)) (wordsNeeded m + wordCount (areaFor m r t)) room;
       vacant =
-          subst (λ (x : Area). (q : ℕ) → x .base .0 ≤ m .base .0 + q → m .base .0 + q < endOf x → freeOrdinary m t (place q) ≡ true) same
+          subst (λ (x : Area). (q : ℕ) → x .base .0 ≤ m .memory .base .0 + q → m .memory .base .0 + q < endOf x → freeOrdinary m t (place q) ≡ true) same
           (vacant-at m r t good low p);
     }

@@ -13,13 +13,15 @@ use borrow.Author.Tests.{eqb-true, eqb-false, eq-eqb, ltb-false, not-false}
 use Rattle.search.proofs.Bools.{by-cases, below-or-not, or-left, or-right}
 use Rattle.search.proofs.Ranges.{some-yes}
 use Rattle.frames.specs.Areas.{isMultiple}
-use Rattle.regions.specs.Amounts.{mostBytes, isPowerOfTwo, isAlignment}
-use Rattle.rules.specs.Record.{Machine}
-use Rattle.rules.specs.Declare.{Request, badRequest, roundDown, alignmentFor, baseFor, sizeFor, limitFor, endByte}
-use Rattle.rules.specs.Limits.{pageBytes}
+use Rattle.text.specs.Numbers.{mostBytes}
+use Rattle.regions.specs.Amounts.{isPowerOfTwo, isAlignment}
+use Rattle.rules.specs.declared.Request.{Request}
+use Rattle.rules.specs.declared.Record.{Record}
+use Rattle.rules.specs.Declare.{badRequest, roundDown, alignmentFor, baseFor, sizeFor, limitFor, endByte}
+use Rattle.rules.specs.Limits.{mostBlockOrder, pageBytes}
 use Rattle.rules.specs.Shape.{memoryRight}
 use Rattle.rules.proofs.Divisions.{up-low, up-high}
-use Rattle.rules.proofs.Shapes.{Memory, memory-known}
+use Rattle.rules.proofs.Shapes.{MemoryFacts, memory-known}
 
 pub record Asked (r : Request) : Type 0 where
   pub base-high : r .base ≤ mostBytes
@@ -49,104 +51,104 @@ asked r e =
       aligned = not-false (isAlignment (r .alignment)) (or-right (a || b || c || d || f) g e);
     }
 
--- so many blocks of 2^order pages, in bytes
-pub record Blocks (amount order : ℕ) : Type 0 where
+-- so many blocks of 2^blockOrder pages, in bytes
+pub record Blocks (amount blockOrder : ℕ) : Type 0 where
   pub times : ℕ
   pub some : 1 ≤ times
-  pub is : amount ≡ times * 2 ^ order * pageBytes
+  pub is : amount ≡ times * 2 ^ blockOrder * pageBytes
 
 -- a power of two at or above a block is a number of blocks
-power-blocks : (k order : ℕ) → pageBytes * 2 ^ order ≤ 2 ^ k → Blocks (2 ^ k) order
-power-blocks k order h =
-    below-or-not k (12 + order)
+power-blocks : (k blockOrder : ℕ) → pageBytes * 2 ^ blockOrder ≤ 2 ^ k → Blocks (2 ^ k) blockOrder
+power-blocks k blockOrder h =
+    below-or-not k (12 + blockOrder)
     (λ low.
-    let less : 2 ^ suc k ≤ 2 ^ (12 + order) = pow-mono {i = suc k} {j = 12 + order} low in
-    let parts : 2 ^ (12 + order) ≡ 4096 * 2 ^ order = pow-add 2 12 order in
+    let less : 2 ^ suc k ≤ 2 ^ (12 + blockOrder) = pow-mono {i = suc k} {j = 12 + blockOrder} low in
+    let parts : 2 ^ (12 + blockOrder) ≡ pageBytes * 2 ^ blockOrder = pow-add 2 12 blockOrder in
     let twice : 2 ^ suc k ≡ 2 * 2 ^ k = pow-succ' 2 k in
     let positive = pow-pos k in
     absurd (omega arith))
     (λ high.
-    let e = k - (12 + order) in
-    let whole : k ≡ e + (order + 12) = omega arith in
+    let e = k - (12 + blockOrder) in
+    let whole : k ≡ e + (blockOrder + 12) = omega arith in
     record {
       times = 2 ^ e;
       some = pow-pos e;
-      is = ap (λ (x : ℕ). 2 ^ x) whole ∙ pow-add 2 e (order + 12) ∙ ap (λ (x : ℕ). 2 ^ e * x) (pow-add 2 order 12) ∙ sym (mul-assoc (2 ^ e) (2 ^ order) 4096);
+      is = ap (λ (x : ℕ). 2 ^ x) whole ∙ pow-add 2 e (blockOrder + 12) ∙ ap (λ (x : ℕ). 2 ^ e * x) (pow-add 2 blockOrder 12) ∙ sym (mul-assoc (2 ^ e) (2 ^ blockOrder) pageBytes);
     })
 
-one-block : (order : ℕ) → Blocks (pageBytes * 2 ^ order) order
-one-block order = record { times = 1; some = omega arith; is = mul-comm 4096 (2 ^ order) ∙ ap (λ (x : ℕ). x * 4096) (sym (one-mul (2 ^ order))) }
+one-block : (blockOrder : ℕ) → Blocks (pageBytes * 2 ^ blockOrder) blockOrder
+one-block blockOrder = record { times = 1; some = omega arith; is = mul-comm pageBytes (2 ^ blockOrder) ∙ ap (λ (x : ℕ). x * pageBytes) (sym (one-mul (2 ^ blockOrder))) }
 
-pub alignment-blocks : (m : Machine) (r : Request) → isAlignment (r .alignment) ≡ true → Blocks (alignmentFor m r) (m .order)
+pub alignment-blocks : (m : Record) (r : Request) → isAlignment (r .alignment) ≡ true → Blocks (alignmentFor m r) (m .memory .«block_order»)
 unfolding alignmentFor isPowerOfTwo
 alignment-blocks m r e =
-    let block = pageBytes * 2 ^ m .order in
-    below-or-not (r .alignment) block (λ low. subst (λ (x : ℕ). Blocks x (m .order)) (sym (max-eq-right {n = r .alignment} {m = block} (omega arith))) (one-block (m .order)))
+    let block = pageBytes * 2 ^ m .memory .«block_order» in
+    below-or-not (r .alignment) block (λ low. subst (λ (x : ℕ). Blocks x (m .memory .«block_order»)) (sym (max-eq-right {n = r .alignment} {m = block} (omega arith))) (one-block (m .memory .«block_order»)))
     (λ high.
-    subst (λ (x : ℕ). Blocks x (m .order)) (sym (max-eq-left {n = r .alignment} {m = block} high))
+    subst (λ (x : ℕ). Blocks x (m .memory .«block_order»)) (sym (max-eq-left {n = r .alignment} {m = block} high))
     (by-cases (eqb (r .alignment) 0)
     (λ z.
     let none = eqb-true (r .alignment) 0 z in
-    let positive = pow-pos (m .order) in
+    let positive = pow-pos (m .memory .«block_order») in
     absurd (omega arith))
     (λ n.
     let w = some-yes (λ k. eqb (r .alignment) (2 ^ k)) 0 64 (power e n) in
     let is = eqb-true (r .alignment) (2 ^ w .at) (w .hit) in
-    subst (λ (x : ℕ). Blocks x (m .order)) (sym is) (power-blocks (w .at) (m .order) (rw is at high)))))
+    subst (λ (x : ℕ). Blocks x (m .memory .«block_order»)) (sym is) (power-blocks (w .at) (m .memory .«block_order») (rw is at high)))))
   where
     power : isAlignment (r .alignment) ≡ true → eqb (r .alignment) 0 ≡ false → isPowerOfTwo (r .alignment) ≡ true
     power e n = sym (ap (λ (b : Bool). b || isPowerOfTwo (r .alignment)) n) ∙ e
 
 -- so many times an amount of blocks: its pages, which are a multiple of a block
-module _ (c amount order : ℕ) (b : Blocks amount order) where
-  pub pages-of : c * amount / pageBytes ≡ c * (b .times * 2 ^ order)
+module _ (c amount blockOrder : ℕ) (b : Blocks amount blockOrder) where
+  pub pages-of : c * amount / pageBytes ≡ c * (b .times * 2 ^ blockOrder)
   pages-of =
       ap (λ (x : ℕ). c * x / pageBytes) (b .is) ∙
-      ap (λ (x : ℕ). x / pageBytes) (sym (mul-assoc c (b .times * 2 ^ order) 4096)) ∙
-      mul-div-cancel (c * (b .times * 2 ^ order)) {n = 4096} (omega arith)
+      ap (λ (x : ℕ). x / pageBytes) (sym (mul-assoc c (b .times * 2 ^ blockOrder) pageBytes)) ∙
+      mul-div-cancel (c * (b .times * 2 ^ blockOrder)) {n = pageBytes} (omega arith)
 
-  pub bytes-of : c * amount ≡ c * (b .times * 2 ^ order) * pageBytes
-  bytes-of = ap (λ (x : ℕ). c * x) (b .is) ∙ sym (mul-assoc c (b .times * 2 ^ order) 4096)
+  pub bytes-of : c * amount ≡ c * (b .times * 2 ^ blockOrder) * pageBytes
+  bytes-of = ap (λ (x : ℕ). c * x) (b .is) ∙ sym (mul-assoc c (b .times * 2 ^ blockOrder) pageBytes)
 
   pub in-pages : c * amount ≡ c * amount / pageBytes * pageBytes
   in-pages = bytes-of ∙ ap (λ (x : ℕ). x * pageBytes) (sym pages-of)
 
-  pub pages-multiple : isMultiple (c * amount / pageBytes) (2 ^ order) ≡ true
+  pub pages-multiple : isMultiple (c * amount / pageBytes) (2 ^ blockOrder) ≡ true
   pages-multiple =
-      eq-eqb (c * amount / pageBytes % 2 ^ order) 0
-      (ap (λ (x : ℕ). x % 2 ^ order) (pages-of ∙ sym (mul-assoc c (b .times) (2 ^ order))) ∙ mul-mod-left (c * b .times) (2 ^ order))
+      eq-eqb (c * amount / pageBytes % 2 ^ blockOrder) 0
+      (ap (λ (x : ℕ). x % 2 ^ blockOrder) (pages-of ∙ sym (mul-assoc c (b .times) (2 ^ blockOrder))) ∙ mul-mod-left (c * b .times) (2 ^ blockOrder))
 
   pub pages-some : 1 ≤ c → 1 ≤ c * amount / pageBytes
-  pages-some some = rw pages-of (mul-pos {m = c} {n = b .times * 2 ^ order} some (mul-pos {m = b .times} {n = 2 ^ order} (b .some) (pow-pos order)))
+  pages-some some = rw pages-of (mul-pos {m = c} {n = b .times * 2 ^ blockOrder} some (mul-pos {m = b .times} {n = 2 ^ blockOrder} (b .some) (pow-pos blockOrder)))
 
 -- ---- the amounts
-pub alignment-some : (m : Machine) (r : Request) → 0 < alignmentFor m r
+pub alignment-some : (m : Record) (r : Request) → 0 < alignmentFor m r
 unfolding alignmentFor
-alignment-some m r = omega (arith, pow-pos (m .order))
+alignment-some m r = omega (arith, pow-pos (m .memory .«block_order»))
 
-pub limit-high : (m : Machine) (r : Request) → limitFor m r ≤ endByte m
+pub limit-high : (m : Record) (r : Request) → limitFor m r ≤ endByte m
 unfolding limitFor
 limit-high m r =
     let limit = roundDown (r .limit) (alignmentFor m r) in
     by-cases (eqb limit 0 || ltb (endByte m) limit) (λ e. rw e (omega arith))
     (λ e. rw e (ltb-false (endByte m) limit (or-right (eqb limit 0) (ltb (endByte m) limit) e)))
 
-pub record Amounts (m : Machine) (r : Request) : Type 0 where
-  pub blocks : Blocks (alignmentFor m r) (m .order)
-  pub alignment-high : alignmentFor m r ≤ 2 ^ 48
-  pub base-high : baseFor m r ≤ 2 ^ 49
-  pub size-high : sizeFor m r ≤ 2 ^ 49
+pub record Amounts (m : Record) (r : Request) : Type 0 where
+  pub blocks : Blocks (alignmentFor m r) (m .memory .«block_order»)
+  pub alignment-high : alignmentFor m r ≤ mostBytes
+  pub base-high : baseFor m r ≤ 2 * mostBytes
+  pub size-high : sizeFor m r ≤ 2 * mostBytes
   pub size-some : 1 ≤ sizeFor m r
   pub base-pages : baseFor m r ≡ baseFor m r / pageBytes * pageBytes
   pub size-pages : sizeFor m r ≡ sizeFor m r / pageBytes * pageBytes
 
-alignment-most : (m : Machine) (r : Request) → Memory (m .base .0) (m .frames) (m .order) → Asked r → alignmentFor m r ≤ 2 ^ 48
+alignment-most : (m : Record) (r : Request) → MemoryFacts (m .memory .base .0) (m .memory .frames) (m .memory .«block_order») → Asked r → alignmentFor m r ≤ mostBytes
 unfolding alignmentFor
 alignment-most m r k a =
-    let power : 2 ^ m .order ≤ 2 ^ 10 = pow-mono (k .order-high) in
+    let power : 2 ^ m .memory .«block_order» ≤ 2 ^ mostBlockOrder = pow-mono (k .order-high) in
     omega (arith, a .alignment-high)
 
-pub amounts : (m : Machine) (r : Request) → memoryRight (m .base .0) (m .frames) (m .order) ≡ true → badRequest r ≡ false → Amounts m r
+pub amounts : (m : Record) (r : Request) → memoryRight (m .memory .base .0) (m .memory .frames) (m .memory .«block_order») ≡ true → badRequest r ≡ false → Amounts m r
 unfolding baseFor sizeFor
 amounts m r memory good =
     let a = asked r good in
@@ -160,6 +162,6 @@ amounts m r memory good =
       base-high = omega (arith, up-high (r .base) d some, a .base-high);
       size-high = omega (arith, up-high (r .size) d some, a .size-high);
       size-some = omega (arith, up-low (r .size) d some, a .size-some);
-      base-pages = in-pages _ d (m .order) blocks;
-      size-pages = in-pages _ d (m .order) blocks;
+      base-pages = in-pages _ d (m .memory .«block_order») blocks;
+      size-pages = in-pages _ d (m .memory .«block_order») blocks;
     }

@@ -1,4 +1,4 @@
--- The shape of a record and its tables: what makes it right. The facts that it says are `shape-known`, of the machine's proofs. Assumes nothing.
+-- The shape of a record and its tables: what makes it right. The facts that it says are `shape-known`, of Shapes. Assumes nothing.
 --     Shaped, facts-shape    the facts that make it right
 --     shape-memory, lengths-facts    two of its tests
 --     shape-lengths          it goes by the tables' lengths alone
@@ -11,46 +11,46 @@ use borrow.Author.Tests.{le-leb, eqb-true, eq-eqb}
 use Rattle.search.specs.Search.{every}
 use Rattle.search.proofs.Bools.{and-left, and-right, and-both}
 use Rattle.frames.specs.Tables.{Tables}
-use Rattle.rules.specs.Record.{Machine}
+use Rattle.rules.specs.declared.Record.{Record}
 use Rattle.rules.specs.Limits.{mostAreas}
 use Rattle.rules.specs.Shape.{memoryRight, lengthsRight, areaFits, wordsNeeded, shapeRight}
 
-pub record Shaped (m : Machine) (t : Tables) : Type 0 where
-  pub memory : memoryRight (m .base .0) (m .frames) (m .order) ≡ true
-  pub declared : m .declared ≤ mostAreas
-  pub marks : length (t .marks) ≡ m .frames
-  pub words : length (t .words) ≡ m .frames
-  pub areas : every (areaFits m) 0 (m .declared) ≡ true
+pub record Shaped (m : Record) (t : Tables) : Type 0 where
+  pub memory : memoryRight (m .memory .base .0) (m .memory .frames) (m .memory .«block_order») ≡ true
+  pub declared : m .memory .declared ≤ mostAreas
+  pub marks : length (t .marks) ≡ m .memory .frames
+  pub words : length (t .words) ≡ m .memory .frames
+  pub areas : every (areaFits m) 0 (m .memory .declared) ≡ true
   pub bitmap : wordsNeeded m ≤ length (t .bitmap)
 
-module _ (m : Machine) (t : Tables) where
+module _ (m : Record) (t : Tables) where
   abbrev memoryTest : Bool
-  memoryTest = memoryRight (m .base .0) (m .frames) (m .order)
+  memoryTest = memoryRight (m .memory .base .0) (m .memory .frames) (m .memory .«block_order»)
 
   abbrev declaredTest : Bool
-  declaredTest = leb (m .declared) mostAreas
+  declaredTest = leb (m .memory .declared) mostAreas
 
   abbrev lengthsTest : Bool
-  lengthsTest = lengthsRight (m .frames) t
+  lengthsTest = lengthsRight (m .memory .frames) t
 
   abbrev areasTest : Bool
-  areasTest = every (areaFits m) 0 (m .declared)
+  areasTest = every (areaFits m) 0 (m .memory .declared)
 
   abbrev bitmapTest : Bool
   bitmapTest = leb (wordsNeeded m) (length (t .bitmap))
 
-  pub lengths-facts : lengthsTest ≡ true → (length (t .marks) ≡ m .frames) × (length (t .words) ≡ m .frames)
+  pub lengths-facts : lengthsTest ≡ true → (length (t .marks) ≡ m .memory .frames) × (length (t .words) ≡ m .memory .frames)
   unfolding lengthsRight
   lengths-facts e = (
-    eqb-true (length (t .marks)) (m .frames) (and-left (eqb (length (t .marks)) (m .frames)) (eqb (length (t .words)) (m .frames)) e),
-    eqb-true (length (t .words)) (m .frames) (and-right (eqb (length (t .marks)) (m .frames)) (eqb (length (t .words)) (m .frames)) e),
+    eqb-true (length (t .marks)) (m .memory .frames) (and-left (eqb (length (t .marks)) (m .memory .frames)) (eqb (length (t .words)) (m .memory .frames)) e),
+    eqb-true (length (t .words)) (m .memory .frames) (and-right (eqb (length (t .marks)) (m .memory .frames)) (eqb (length (t .words)) (m .memory .frames)) e),
   )
 
-  pub facts-lengths : length (t .marks) ≡ m .frames → length (t .words) ≡ m .frames → lengthsTest ≡ true
+  pub facts-lengths : length (t .marks) ≡ m .memory .frames → length (t .words) ≡ m .memory .frames → lengthsTest ≡ true
   unfolding lengthsRight
   facts-lengths a b =
-      and-both (eqb (length (t .marks)) (m .frames)) (eqb (length (t .words)) (m .frames)) (eq-eqb (length (t .marks)) (m .frames) a)
-      (eq-eqb (length (t .words)) (m .frames) b)
+      and-both (eqb (length (t .marks)) (m .memory .frames)) (eqb (length (t .words)) (m .memory .frames)) (eq-eqb (length (t .marks)) (m .memory .frames) a)
+      (eq-eqb (length (t .words)) (m .memory .frames) b)
 
   pub shape-memory : shapeRight m t ≡ true → memoryTest ≡ true
   unfolding shapeRight
@@ -65,14 +65,14 @@ module _ (m : Machine) (t : Tables) where
   facts-shape s =
       rw (
         s .memory,
-        le-leb (m .declared) mostAreas (s .declared),
+        le-leb (m .memory .declared) mostAreas (s .declared),
         facts-lengths (s .marks) (s .words),
         s .areas,
         le-leb (wordsNeeded m) (length (t .bitmap)) (s .bitmap),
       )
 
 pub shape-lengths :
-    (m : Machine) (t t′ : Tables) →
+    (m : Record) (t t′ : Tables) →
     length (t′ .marks) ≡ length (t .marks) →
     length (t′ .words) ≡ length (t .words) → length (t′ .bitmap) ≡ length (t .bitmap) → shapeRight m t′ ≡ shapeRight m t
 unfolding shapeRight lengthsRight

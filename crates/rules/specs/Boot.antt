@@ -6,22 +6,16 @@ use lib.Dec.{eqb}
 use lib.ListN.{length, replicate}
 use Rattle.search.specs.Choice.{if_then_else_}
 use Rattle.answer.specs.Answers.{done, refusedAt}
-use Rattle.frames.specs.Units.{frame}
-use Rattle.frames.specs.Areas.{noArea}
 use Rattle.frames.specs.Tables.{Tables, tables}
 use Rattle.regions.specs.declared.Region.{Region}
-use Rattle.regions.specs.Reading.{Read, gives, refuses, _then_, refuseIf}
+use Rattle.text.specs.Reading.{Read, gives, refuses, _then_, refuseIf}
 use Rattle.regions.specs.Text.{regions}
-use Rattle.rules.specs.Record.{Machine}
-use Rattle.rules.specs.Declare.{Request, declare}
-use Rattle.rules.specs.Limits.{mostAreas}
+use Rattle.rules.specs.declared.Request.{Request}
+use Rattle.rules.specs.declared.Record.{Record}
+use Rattle.rules.specs.Record.{bareRecord}
+use Rattle.rules.specs.Declare.{declare}
 use Rattle.rules.specs.Shape.{memoryRight, lengthsRight}
 use Rattle.rules.specs.Outcomes.{Outcome, outcome}
-
--- a record with no areas, whose unused area records are zero
-abbrev pub bareMachine : ℕ → ℕ → ℕ → Machine
-bareMachine base frames order =
-    record { base = frame base; frames = frames; order = order; declared = 0; areas = replicate mostAreas noArea }
 
 -- all three tables zero, spare bitmap words too
 abbrev pub zeroTables : Tables → Tables
@@ -29,25 +23,25 @@ zeroTables t = tables (replicate (length (t .marks)) 0) (replicate (length (t .w
 
 -- a region's declaration: a nonzero start is fixed, k and limit are 0
 abbrev pub requestOf : Region → Request
-requestOf r = record { base = r .start; size = r .size; limit = 0; alignment = r .alignment; order = 0; fixed = not (eqb (r .start) 0) }
+requestOf r = record { base = r .start; size = r .size; limit = 0; alignment = r .alignment; «order_per_bit» = 0; fixed = not (eqb (r .start) 0) }
 
 -- the regions are declared in turn; a declaration's refusal gives the region's index
-unfoldable pub declareAll : List Region → ℕ → Machine → Tables → Read Machine
+unfoldable pub declareAll : List Region → ℕ → Record → Tables → Read Record
 declareAll [] i m t = gives m i
 declareAll (r ∷ rs) i m t =
     let o = declare m (requestOf r) t in
     if eqb (o .answer .refusal) 0 then declareAll rs (suc i) (o .machine) (o .left) else refuses (o .answer .refusal) i
 
 -- the record that a boot leaves, or its refusal and place. The regions are declared as if every frame were free
-unfoldable pub bootRecord : ℕ → ℕ → ℕ → List ℕ → Tables → Read Machine
-bootRecord base frames order text t =
-    refuseIf (not (memoryRight base frames order && lengthsRight frames t)) 1 0
-    (regions text then λ rs _. declareAll rs 0 (bareMachine base frames order) (zeroTables t))
+unfoldable pub bootRecord : ℕ → ℕ → ℕ → List ℕ → Tables → Read Record
+bootRecord base frames blockOrder text t =
+    refuseIf (not (memoryRight base frames blockOrder && lengthsRight frames t)) 1 0
+    (regions text then λ rs _. declareAll rs 0 (bareRecord base frames blockOrder) (zeroTables t))
 
 -- the record given is ignored, and handed back by a refusal
-abbrev pub booted : Machine → Tables → Read Machine → Outcome
+abbrev pub booted : Record → Tables → Read Record → Outcome
 booted m t (gives new _) = outcome new (done 0 0) (zeroTables t)
 booted m t (refuses number at) = outcome m (refusedAt number at) t
 
-unfoldable pub boot : Machine → ℕ → ℕ → ℕ → List ℕ → Tables → Outcome
-boot m base frames order text t = booted m t (bootRecord base frames order text t)
+unfoldable pub boot : Record → ℕ → ℕ → ℕ → List ℕ → Tables → Outcome
+boot m base frames blockOrder text t = booted m t (bootRecord base frames blockOrder text t)

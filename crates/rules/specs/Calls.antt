@@ -1,42 +1,27 @@
--- Every call with its arguments, and what it does: the contracts' own definitions under one name.
+-- What every call does: the contracts' own definitions under one name. A text is lent beside the call, and a boot alone reads it.
 use Prim.Native.Nat.{ℕ}
 use mathlib.Core.List.{List}
-use Rattle.frames.specs.declared.Frame.{Frame}
 use Rattle.frames.specs.Tables.{Tables}
-use Rattle.rules.specs.Record.{Machine}
-use Rattle.rules.specs.Declare.{Request}
+use Rattle.rules.specs.declared.Call.{Call}
+use Rattle.rules.specs.declared.Call.the-variants as Call
+use Rattle.rules.specs.declared.Record.{Record}
 use Rattle.rules.specs.Outcomes.{Outcome}
 use Rattle.rules.specs.PageCalls as PageCalls
 use Rattle.rules.specs.DeviceCalls as DeviceCalls
 use Rattle.rules.specs.Declare as Declare
 use Rattle.rules.specs.Boot as Boot
 
-pub data Call : Type 0 where
-  putMovable : (name : ℕ) → Call
-  putFixed : (name : ℕ) → Call
-  dropPage : (name : ℕ) → Call
-  pinPage : (name : ℕ) → Call
-  unpinPage : (name : ℕ) → Call
-  storePage : (name word : ℕ) → Call
-  readPage : (name : ℕ) → Call
-  grant : (area count order : ℕ) → Call
-  release : (area : ℕ) → (frame : Frame) → (count : ℕ) → Call
-  deviceStore : (frame : Frame) → (word : ℕ) → Call
-  deviceRead : (frame : Frame) → Call
-  declare : (request : Request) → Call
-  boot : (base frames order : ℕ) → (text : List ℕ) → Call
-
-abbrev pub perform : Call → Machine → Tables → Outcome
-perform (putMovable name) m t = PageCalls.putMovable m name t
-perform (putFixed name) m t = PageCalls.putFixed m name t
-perform (dropPage name) m t = PageCalls.dropPage m name t
-perform (pinPage name) m t = PageCalls.pinPage m name t
-perform (unpinPage name) m t = PageCalls.unpinPage m name t
-perform (storePage name word) m t = PageCalls.storePage m name word t
-perform (readPage name) m t = PageCalls.readPage m name t
-perform (grant area count order) m t = DeviceCalls.grant m area count order t
-perform (release area f count) m t = DeviceCalls.release m area f count t
-perform (deviceStore f word) m t = DeviceCalls.deviceStore m f word t
-perform (deviceRead f) m t = DeviceCalls.deviceRead m f t
-perform (declare r) m t = Declare.declare m r t
-perform (boot base frames order text) m t = Boot.boot m base frames order text t
+abbrev pub perform : Call → List ℕ → Record → Tables → Outcome
+perform (Call.PutMovable name) text m t = PageCalls.putMovable m name t
+perform (Call.PutFixed name) text m t = PageCalls.putFixed m name t
+perform (Call.Drop name) text m t = PageCalls.dropPage m name t
+perform (Call.Pin name) text m t = PageCalls.pinPage m name t
+perform (Call.Unpin name) text m t = PageCalls.unpinPage m name t
+perform (Call.Store name word) text m t = PageCalls.storePage m name word t
+perform (Call.Read name) text m t = PageCalls.readPage m name t
+perform (Call.Grant area count alignOrder) text m t = DeviceCalls.grant m area count alignOrder t
+perform (Call.Release area frame count) text m t = DeviceCalls.release m area frame count t
+perform (Call.DeviceStore frame word) text m t = DeviceCalls.deviceStore m frame word t
+perform (Call.DeviceRead frame) text m t = DeviceCalls.deviceRead m frame t
+perform (Call.Declare request) text m t = Declare.declare m request t
+perform (Call.Boot base frames blockOrder) text m t = Boot.boot m (base .0) frames blockOrder text t

@@ -15,53 +15,55 @@ use Rattle.frames.specs.Units.{place, bit}
 use Rattle.frames.specs.Marks.{markOf, fieldOf, hasKind, canLeave, isGranted, movable, head, later}
 use Rattle.frames.specs.Areas.{isMultiple, endOf, perBit, bitCount, firstWord, frameOfBit, bitOfFrame, bitsFor}
 use Rattle.frames.specs.Tables.{Tables, markAt, wordAt, setPage, fillPages, withBitmap}
-use Rattle.rules.specs.Record.{Machine, areaAt, placeOf, endFrame}
-use Rattle.rules.specs.Limits.{mostAlignment}
+use Rattle.rules.specs.declared.Memory.{Memory}
+use Rattle.rules.specs.declared.Record.{Record}
+use Rattle.rules.specs.Record.{areaAt, placeOf}
+use Rattle.rules.specs.Limits.{mostAlignOrder}
 use Rattle.rules.specs.Shape.{shapeWrong}
 use Rattle.rules.specs.Outcomes.{Outcome, outcome, Check, _⇒_, checked}
 use Rattle.rules.specs.PageCalls.{lowestPlace, freeOrdinary}
 
 -- the first word of area i's bitmap
-abbrev pub bitmapOf : Machine → ℕ → ℕ
+abbrev pub bitmapOf : Record → ℕ → ℕ
 bitmapOf m i = firstWord (m .areas) i
 
 -- the place of a bit's first frame
-abbrev pub placeOfBit : Machine → ℕ → Bit → Place
+abbrev pub placeOfBit : Record → ℕ → Bit → Place
 placeOfBit m i j = placeOf m (frameOfBit (areaAt m i) j)
 
 -- ---- Grant (area, count, alignment order)
 
--- a candidate starts on a bit, its physical frame is a multiple of 2^order, and its bits lie in the area and are clear
-unfoldable pub isCandidate : Machine → Tables → ℕ → ℕ → ℕ → Bit → Bool
-isCandidate m t i count order j =
-    isMultiple (frameOfBit (areaAt m i) j .0) (2 ^ order) &&
+-- a candidate starts on a bit, its physical frame is a multiple of 2^alignOrder, and its bits lie in the area and are clear
+unfoldable pub isCandidate : Record → Tables → ℕ → ℕ → ℕ → Bit → Bool
+isCandidate m t i count alignOrder j =
+    isMultiple (frameOfBit (areaAt m i) j .0) (2 ^ alignOrder) &&
     leb (j .0 + bitsFor (areaAt m i) count) (bitCount (areaAt m i)) &&
     every (isClear (t .bitmap) (bitmapOf m i)) (j .0) (bitsFor (areaAt m i) count)
 
 -- it is grantable when each of its count frames is free or movable
-unfoldable pub isGrantable : Machine → Tables → ℕ → ℕ → ℕ → Bit → Bool
-isGrantable m t i count order j =
-    isCandidate m t i count order j && every (λ q. canLeave (markAt t (place q))) (placeOfBit m i j .0) count
+unfoldable pub isGrantable : Record → Tables → ℕ → ℕ → ℕ → Bit → Bool
+isGrantable m t i count alignOrder j =
+    isCandidate m t i count alignOrder j && every (λ q. canLeave (markAt t (place q))) (placeOfBit m i j .0) count
 
 -- the lowest grantable candidate; the bit after the last where there is none
-unfoldable pub chosen : Machine → Tables → ℕ → ℕ → ℕ → Bit
-chosen m t i count order = bit (lowest (λ j. isGrantable m t i count order (bit j)) (bitCount (areaAt m i)))
+unfoldable pub chosen : Record → Tables → ℕ → ℕ → ℕ → Bit
+chosen m t i count alignOrder = bit (lowest (λ j. isGrantable m t i count alignOrder (bit j)) (bitCount (areaAt m i)))
 
 -- the movable frames of a run, and the frames that their pages can go to
 unfoldable pub movers : Tables → Place → ℕ → ℕ
 movers t p count = howMany (λ q. hasKind movable (markAt t (place q))) (p .0) count
 
-unfoldable pub targets : Machine → Tables → ℕ
-targets m t = howMany (λ q. freeOrdinary m t (place q)) 0 (m .frames)
+unfoldable pub targets : Record → Tables → ℕ
+targets m t = howMany (λ q. freeOrdinary m t (place q)) 0 (m .memory .frames)
 
 -- a movable page goes to the lowest free ordinary frame, with mark and word
-unfoldable pub movePage : Machine → Tables → Place → Tables
+unfoldable pub movePage : Record → Tables → Place → Tables
 movePage m t p =
     if hasKind movable (markAt t p) then
     setPage (setPage t (lowestPlace m (freeOrdinary m t)) (markAt t p) (wordAt t p)) p 0 0 else t
 
 -- the movable pages of a run, ascending. No frame of the run is ordinary, so together they go to the lowest free ordinary frames, ascending
-unfoldable pub moveOut : Machine → Tables → Place → ℕ → Tables
+unfoldable pub moveOut : Record → Tables → Place → ℕ → Tables
 moveOut m t p zero = t
 moveOut m t p (suc d) = moveOut m (movePage m t p) (place (suc (p .0))) d
 
@@ -70,27 +72,28 @@ abbrev pub markRun : Tables → Place → ℕ → Tables
 markRun t p count = fillPages (setPage t p (markOf count head) 0) (place (suc (p .0))) (count - 1) (markOf 0 later) 0
 
 -- what a grant of the run at bit j leaves
-unfoldable pub takeRun : Machine → Tables → ℕ → ℕ → Bit → Tables
+unfoldable pub takeRun : Record → Tables → ℕ → ℕ → Bit → Tables
 takeRun m t i count j =
     withBitmap (markRun (moveOut m t (placeOfBit m i j) count) (placeOfBit m i j) count)
     (setBits (t .bitmap) (bitmapOf m i) (j .0) (bitsFor (areaAt m i) count))
 
-abbrev pub noArea : Machine → ℕ → Bool
-noArea m i = leb (m .declared) i
+-- no area has that number
+abbrev pub isUnknown : Memory → ℕ → Bool
+isUnknown memory i = leb (memory .declared) i
 
-abbrev pub grantChecks : Machine → ℕ → ℕ → ℕ → Tables → List Check
-grantChecks m i count order t =
-    let j = chosen m t i count order in
+abbrev pub grantChecks : Record → ℕ → ℕ → ℕ → Tables → List Check
+grantChecks m i count alignOrder t =
+    let j = chosen m t i count alignOrder in
     shapeWrong m t ⇒ 1 ∷
-    (noArea m i || eqb count 0 || ltb mostAlignment order) ⇒ 2 ∷
+    (isUnknown (m .memory) i || eqb count 0 || ltb mostAlignOrder alignOrder) ⇒ 2 ∷
     leb (bitCount (areaAt m i)) (j .0) ⇒ 7 ∷
     ltb (targets m t) (movers t (placeOfBit m i j) count) ⇒ 8 ∷
     []
 
-unfoldable pub grant : Machine → ℕ → ℕ → ℕ → Tables → Outcome
-grant m i count order t =
-    let j = chosen m t i count order in
-    checked m t (grantChecks m i count order t)
+unfoldable pub grant : Record → ℕ → ℕ → ℕ → Tables → Outcome
+grant m i count alignOrder t =
+    let j = chosen m t i count alignOrder in
+    checked m t (grantChecks m i count alignOrder t)
     (outcome m (done (frameOfBit (areaAt m i) j .0) (movers t (placeOfBit m i j) count)) (takeRun m t i count j))
 
 -- ---- Release (area, frame, count)
@@ -107,39 +110,39 @@ offBit a f = not (isMultiple (f .0 - a .base .0) (perBit a))
 unfoldable pub laterFrames : Tables → Place → ℕ → Bool
 laterFrames t p count = every (λ q. hasKind later (markAt t (place q))) (suc (p .0)) (count - 1)
 
-unfoldable pub freeRun : Machine → Tables → ℕ → Frame → ℕ → Tables
+unfoldable pub freeRun : Record → Tables → ℕ → Frame → ℕ → Tables
 freeRun m t i f count =
     withBitmap (fillPages t (placeOf m f) count 0 0)
     (clearBits (t .bitmap) (bitmapOf m i) (bitOfFrame (areaAt m i) f .0) (bitsFor (areaAt m i) count))
 
-abbrev pub releaseChecks : Machine → ℕ → Frame → ℕ → Tables → List Check
+abbrev pub releaseChecks : Record → ℕ → Frame → ℕ → Tables → List Check
 releaseChecks m i f count t =
     let mark = markAt t (placeOf m f) in
     shapeWrong m t ⇒ 1 ∷
-    (noArea m i || eqb count 0 || outsideArea (areaAt m i) f count) ⇒ 2 ∷
+    (isUnknown (m .memory) i || eqb count 0 || outsideArea (areaAt m i) f count) ⇒ 2 ∷
     (offBit (areaAt m i) f || not (hasKind head mark)) ⇒ 3 ∷
     (not (eqb (fieldOf mark) count) || not (laterFrames t (placeOf m f) count)) ⇒ 9 ∷
     []
 
-unfoldable pub release : Machine → ℕ → Frame → ℕ → Tables → Outcome
+unfoldable pub release : Record → ℕ → Frame → ℕ → Tables → Outcome
 release m i f count t = checked m t (releaseChecks m i f count t) (outcome m (done 0 0) (freeRun m t i f count))
 
 -- ---- Device store, device read
 
-abbrev pub outsideMemory : Machine → Frame → Bool
-outsideMemory m f = ltb (f .0) (m .base .0) || leb (endFrame m) (f .0)
+abbrev pub outsideMemory : Memory → Frame → Bool
+outsideMemory memory f = ltb (f .0) (memory .base .0) || leb (memory .base .0 + memory .frames) (f .0)
 
-abbrev pub deviceChecks : Machine → Frame → Tables → List Check
+abbrev pub deviceChecks : Record → Frame → Tables → List Check
 deviceChecks m f t =
     shapeWrong m t ⇒ 1 ∷
-    outsideMemory m f ⇒ 2 ∷
+    outsideMemory (m .memory) f ⇒ 2 ∷
     not (isGranted (markAt t (placeOf m f))) ⇒ 3 ∷
     []
 
-unfoldable pub deviceStore : Machine → Frame → ℕ → Tables → Outcome
+unfoldable pub deviceStore : Record → Frame → ℕ → Tables → Outcome
 deviceStore m f word t =
     let p = placeOf m f in
     checked m t (deviceChecks m f t) (outcome m (done 0 0) (setPage t p (markAt t p) word))
 
-unfoldable pub deviceRead : Machine → Frame → Tables → Outcome
+unfoldable pub deviceRead : Record → Frame → Tables → Outcome
 deviceRead m f t = checked m t (deviceChecks m f t) (outcome m (done (wordAt t (placeOf m f)) 0) t)

@@ -1,6 +1,7 @@
 pub mod Boot
 pub mod Calls
 pub mod Declare
+pub mod Does
 pub mod DeviceCalls
 pub mod Limits
 pub mod Outcomes
@@ -9,3 +10,4 @@ pub mod Record
 pub mod Shape
 pub mod ledger
 pub mod promises
+pub mod steps

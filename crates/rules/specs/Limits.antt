@@ -1,5 +1,6 @@
--- Document 01, "The machine and its neighbours", the first table: what is allowed. Byte amounts are `mostBytes` of the regions text.
-use Prim.Native.Nat.{ℕ, _^_}
+-- Document 01, "The machine and its neighbours", the first table: what is allowed. Byte amounts are `mostBytes` of text/specs/Numbers.
+use Prim.Native.Nat.{ℕ, _*_, _^_}
+use Rattle.frames.specs.Areas.{areaNumbers}
 
 abbrev pub leastFrames : ℕ
 leastFrames = 1
@@ -14,11 +15,15 @@ leastBase = 1
 abbrev pub mostEnd : ℕ
 mostEnd = 2 ^ 36
 
-abbrev pub mostOrder : ℕ
-mostOrder = 10
+abbrev pub mostBlockOrder : ℕ
+mostBlockOrder = 10
 
 abbrev pub mostAreas : ℕ
 mostAreas = 8
+
+-- the numbers of all area records
+abbrev pub mostAreaNumbers : ℕ
+mostAreaNumbers = mostAreas * areaNumbers
 
 abbrev pub leastName : ℕ
 leastName = 1
@@ -27,8 +32,8 @@ abbrev pub mostName : ℕ
 mostName = 536870911
 
 -- grant alignment orders are 0 to this
-abbrev pub mostAlignment : ℕ
-mostAlignment = 16
+abbrev pub mostAlignOrder : ℕ
+mostAlignOrder = 16
 
 abbrev pub pageBytes : ℕ
 pageBytes = 4096

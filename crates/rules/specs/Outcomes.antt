@@ -7,15 +7,15 @@ use Rattle.search.specs.Choice.{if_then_else_}
 use Rattle.answer.specs.declared.Answer.{Answer}
 use Rattle.answer.specs.Answers.{refused}
 use Rattle.frames.specs.Tables.{Tables}
-use Rattle.rules.specs.Record.{Machine}
+use Rattle.rules.specs.declared.Record.{Record}
 
 -- the record that a call hands back, its answer, and the tables as it leaves them
 pub record Outcome : Type 0 where
-  pub machine : Machine
+  pub machine : Record
   pub answer : Answer
   pub left : Tables
 
-abbrev pub outcome : Machine → Answer → Tables → Outcome
+abbrev pub outcome : Record → Answer → Tables → Outcome
 outcome m a t = record { machine = m; answer = a; left = t }
 
 -- a check of a call: where it holds, the call is refused with that number
@@ -28,11 +28,11 @@ abbrev pub _⇒_ : Bool → ℕ → Check
 holds ⇒ number = record { holds = holds; number = number }
 
 -- a refusal changes no table and no record
-abbrev pub refuse : Machine → Tables → ℕ → Outcome
+abbrev pub refuse : Record → Tables → ℕ → Outcome
 refuse m t number = outcome m (refused number) t
 
 -- the first check that holds refuses the call; it is done where none holds
-unfoldable pub checked : Machine → Tables → List Check → Outcome → Outcome
+unfoldable pub checked : Record → Tables → List Check → Outcome → Outcome
 checked m t [] o = o
 checked m t (c ∷ cs) o = if c .holds then refuse m t (c .number) else checked m t cs o
 

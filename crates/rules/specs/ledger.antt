@@ -1,5 +1,5 @@
 pub mod Instance
-pub mod Invariant
 pub mod Ledger
-pub mod Runs
+pub mod Lists
+pub mod Roles
 pub mod Statement

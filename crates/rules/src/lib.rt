@@ -1,2 +1,139 @@
-// The rules of document 01 as definitions, and what is proved of them: the promises in plain quantifiers, and the ledger of demand 3 over every
-// list of calls. The machine's contracts cite these definitions. No code stands here.
+// The plain data of a machine, the rules of document 01 as definitions over it, and what is proved of them: the promises in plain quantifiers,
+// and the ledger of demand 3 over every list of calls. The contracts of the crates above cite these definitions.
+ghost use mathlib.Core.Path.{_≡_};
+ghost use Rattle.rules.specs.Record.{freshRecord, bareRecord};
+use frames::Area;
+use frames::Frame;
+
+// What a record says of memory, but for its areas' numbers.
+pub struct Memory {
+    // The first physical frame (document 01's P).
+    pub base: Frame,
+    // How many frames there are (n).
+    pub frames: u64,
+    // The block order (b): areas begin and end on a block of 2^b frames.
+    pub block_order: u64,
+    // How many of the area records are in use.
+    pub declared: u64,
+}
+
+// The machine record, which each call takes and hands back. The numbers of its areas are one flat array, so that a function can be lent them:
+// a slice of numbers is proved with no walk of the code, and a slice of structs is not.
+pub struct Record {
+    pub memory: Memory,
+    pub areas: [u64; Record::AREA_NUMBERS],
+}
+
+impl Record {
+    // The limits that a record and its calls keep to: document 01's first table.
+    pub const LEAST_FRAMES: u64 = 1;
+
+    pub const MOST_FRAMES: u64 = 65536;
+
+    pub const LEAST_BASE: u64 = 1;
+
+    pub const MOST_END: u64 = 68719476736;
+
+    pub const MOST_BLOCK_ORDER: u64 = 10;
+
+    pub const MOST_AREAS: u64 = 8;
+
+    pub const LEAST_NAME: u64 = 1;
+
+    pub const MOST_NAME: u64 = 536870911;
+
+    pub const MOST_ALIGN_ORDER: u64 = 16;
+
+    // Numbers of a text keep to it too.
+    pub const MOST_BYTES: u64 = text::numbers::MOST_BYTES;
+
+    pub const PAGE_BYTES: u64 = 4096;
+
+    // How many numbers the areas take, in use or not.
+    pub const AREA_NUMBERS: usize = Record::MOST_AREAS as usize * Area::NUMBERS;
+
+    // A record with no areas: every area's numbers are zero.
+    pub fn bare(base: Frame, frames: u64, block_order: u64) -> Self
+        ensures { λ r. ⌜ r ≡ bareRecord (base .0) frames «block_order» ⌝ }
+    {
+        let memory = Memory {
+            base,
+            frames,
+            block_order,
+            declared: 0,
+        };
+        Self {
+            memory,
+            areas: [0; Record::AREA_NUMBERS],
+        }
+    }
+
+    // All zeros, which is the wrong shape.
+    pub fn fresh() -> Self
+        ensures { λ r. ⌜ r ≡ freshRecord ⌝ }
+    {
+        Record::bare(Frame(0), 0, 0)
+    }
+}
+
+// What a declaration asks for: amounts in bytes, the order of the pages per bit (document 01's k), and whether the base is where the area
+// must begin.
+pub struct Request {
+    pub base: u64,
+    pub size: u64,
+    pub limit: u64,
+    pub alignment: u64,
+    pub order_per_bit: u64,
+    pub fixed: bool,
+}
+
+// A call with its numbers. A boot's text is lent beside it, since an enum holds no reference; no other call reads it.
+pub enum Call {
+    PutMovable {
+        name: u64,
+    },
+    PutFixed {
+        name: u64,
+    },
+    Drop {
+        name: u64,
+    },
+    Pin {
+        name: u64,
+    },
+    Unpin {
+        name: u64,
+    },
+    Store {
+        name: u64,
+        word: u64,
+    },
+    Read {
+        name: u64,
+    },
+    Grant {
+        area: u64,
+        count: u64,
+        align: u64,
+    },
+    Release {
+        area: u64,
+        frame: Frame,
+        count: u64,
+    },
+    DeviceStore {
+        frame: Frame,
+        word: u64,
+    },
+    DeviceRead {
+        frame: Frame,
+    },
+    Declare {
+        request: Request,
+    },
+    Boot {
+        base: Frame,
+        frames: u64,
+        block_order: u64,
+    },
+}

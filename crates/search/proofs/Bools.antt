@@ -2,7 +2,7 @@
 --     by-cases      what holds at either value of a test, with the equation in hand
 --     below-or-not  the same of two numbers: a < b or b ≤ a
 --     clash         a test that has both values proves anything
---     both-left, both-right, both, neither    `a && b` is true just where both are; `a || b` is false just where neither is
+--     and-, or-, not-    `a && b` is true just where both are; `a || b` is false just where neither is; `not` turns a value round
 use Prim.Native.Nat.{ℕ, _≤_, _<_}
 use lib.Dec.{ltb}
 use borrow.Author.Tests.{ltb-true, ltb-false}

@@ -3,16 +3,15 @@
 --     many-next                         the range grows by one at its end
 --     many-split                        a range in two parts
 --     many-cong                         it goes by the test's values in the range alone
---     many-le, many-some, many-zero     at most the width; at least one where one passes; none where none does
+--     many-le, many-zero                at most the width; none where none passes
 use Prim.Native.Nat.{ℕ, zero, suc, _+_, _≤_, _<_}
-use native.Mathlib.Nat.{add-zero, zero-add, add-suc, suc-add}
-use native.Mathlib.Numerals.{add-one}
+use native.Mathlib.Nat.{add-zero, zero-add, suc-add}
 use native.Mathlib.Omega.{arith}
-use mathlib.Core.Path.{_≡_, refl, sym, ap, subst, _∙_}
+use mathlib.Core.Path.{_≡_, refl, sym, ap, _∙_}
 use mathlib.Core.Bool.{Bool, true, false}
 use Rattle.search.specs.Choice.{if_then_else_}
 use Rattle.search.specs.Search.{howMany}
-use Rattle.search.proofs.Bools.{by-cases, below-or-not, clash}
+use Rattle.search.proofs.Bools.{by-cases}
 
 module _ (p : ℕ → Bool) where
   pub many-none : (i : ℕ) → howMany p i 0 ≡ 0
@@ -58,15 +57,6 @@ module _ (p : ℕ → Bool) where
   many-zero i zero none = many-none i
   many-zero i (suc d) none =
       many-fail i d (none i (omega arith) (omega arith)) ∙ many-zero (suc i) d (λ k a b. none k (omega arith) (omega arith))
-
-  -- where some number of the range is counted, one passes
-  pub many-some : (i d k : ℕ) → i ≤ k → k < i + d → p k ≡ true → 0 < howMany p i d
-  many-some i zero k a b e = absurd (omega arith)
-  many-some i (suc d) k a b e =
-      by-cases (p i) (λ t. rw (many-pass i d t) (omega arith))
-      (λ f.
-      rw (many-fail i d f)
-      (many-some (suc i) d k (below-or-not i k (λ h. h) (λ h. clash (p k) e (subst (λ (x : ℕ). p x ≡ false) (omega arith) f))) (omega arith) e))
 
 pub many-cong : (p q : ℕ → Bool) (i d : ℕ) → ((k : ℕ) → i ≤ k → k < i + d → p k ≡ q k) → howMany p i d ≡ howMany q i d
 many-cong p q i zero same = many-none p i ∙ sym (many-none q i)

@@ -1,16 +1,14 @@
 -- The laws of "the highest such that". Assumes nothing.
 --     Greatest p i d r    what it is to be the highest number of the range that passes, or the range's end where none does
 --     highest-greatest    `highestFrom` is that; greatest-unique: nothing else is
-use Prim.Native.Nat.{ℕ, zero, suc, _+_, _-_, _≤_, _<_}
+use Prim.Native.Nat.{ℕ, suc, _+_, _-_, _≤_, _<_}
 use native.Mathlib.Omega.{arith}
-use mathlib.Core.Path.{_≡_, refl, sym, ap, subst, _∙_}
+use mathlib.Core.Path.{_≡_, subst}
 use mathlib.Core.Bool.{Bool, true, false}
-use lib.Dec.{ltb}
 use borrow.Author.Tests.{lt-ltb, le-ltb}
-use Rattle.search.specs.Choice.{if_then_else_}
 use Rattle.search.specs.Search.{lowest, fromTop, highestFrom}
-use Rattle.search.proofs.Bools.{by-cases, below-or-not, clash}
-use Rattle.search.proofs.Lowest.{lowest-le, found-passes, found-low}
+use Rattle.search.proofs.Bools.{below-or-not, clash}
+use Rattle.search.proofs.Lowest.{found-passes, found-low}
 
 pub record Greatest (p : ℕ → Bool) (i d r : ℕ) : Type 0 where
   pub low : i ≤ r

@@ -9,11 +9,10 @@
 -- And of the search below n:
 --     found-passes, found-low, found-some, found-none, lowest-le
 use Prim.Native.Nat.{ℕ, zero, suc, _+_, _-_, _≤_, _<_}
-use native.Mathlib.Nat.{le-refl, add-zero, add-suc, suc-add, zero-add, eq-or-lt-of-le}
-use native.Mathlib.Numerals.{add-one}
+use native.Mathlib.Nat.{le-refl, eq-or-lt-of-le}
 use native.Mathlib.Omega.{arith}
 use mathlib.Core.Logic.{⊎-elim}
-use mathlib.Core.Path.{_≡_, refl, sym, ap, subst, _∙_}
+use mathlib.Core.Path.{_≡_, refl, ap, subst, _∙_}
 use mathlib.Core.Bool.{Bool, true, false}
 use Rattle.search.specs.Search.{lowestFrom, lowest}
 use Rattle.search.proofs.Bools.{by-cases, below-or-not, clash}

@@ -5,15 +5,15 @@
 --     some-cong, every-cong            they go by the test's values in the range alone
 --     every-part                       what each number of a range passes, each of a part of it does
 --     every-up, every-done, every-stops    a loop from 0: one more passes; it has come to the end; one fails
-use Prim.Native.Nat.{ℕ, zero, suc, _+_, _≤_, _<_}
+use Prim.Native.Nat.{ℕ, _+_, _≤_, _<_}
 use native.Mathlib.Omega.{arith}
-use mathlib.Core.Path.{_≡_, refl, sym, ap, subst, _∙_}
+use mathlib.Core.Path.{_≡_, sym, ap, subst, _∙_}
 use mathlib.Core.Bool.{Bool, true, false, not, _&&_, _||_}
 use lib.Dec.{ltb}
-use borrow.Author.Tests.{ltb-true, ltb-false, lt-ltb, le-ltb}
+use borrow.Author.Tests.{ltb-true, ltb-false}
 use Rattle.search.specs.Search.{lowestFrom, some, every}
-use Rattle.search.proofs.Bools.{by-cases, below-or-not, clash, not-flips, not-not}
-use Rattle.search.proofs.Lowest.{Least, lowest-least, lowest-cong}
+use Rattle.search.proofs.Bools.{by-cases, below-or-not, clash, not-flips}
+use Rattle.search.proofs.Lowest.{lowest-least, lowest-cong}
 
 -- a number of the range that passes
 pub record Witness (p : ℕ → Bool) (i d : ℕ) : Type 0 where

@@ -1,5 +1,5 @@
 -- What a station example says, and when it holds: each call is answered as it says, in turn, and then the marks stand as it says.
-use Prim.Native.Nat.{ℕ, _-_}
+use Prim.Native.Nat.{ℕ}
 use mathlib.Core.Bool.{Bool, true, _&&_}
 use mathlib.Core.List.{List, [], _∷_}
 use lib.Dec.{eqb}
@@ -7,9 +7,10 @@ use lib.ListN.{replicate}
 use Rattle.answer.specs.declared.Answer.{Answer}
 use Rattle.frames.specs.Units.{frame}
 use Rattle.frames.specs.Tables.{Tables, tables, markAt}
-use Rattle.rules.specs.Record.{Machine, freshMachine, placeOf}
-use Rattle.rules.specs.Outcomes.{Outcome}
-use Rattle.rules.specs.Calls.{Call, perform}
+use Rattle.rules.specs.declared.Call.{Call}
+use Rattle.rules.specs.declared.Record.{Record}
+use Rattle.rules.specs.Record.{freshRecord, placeOf}
+use Rattle.rules.specs.Calls.{perform}
 
 -- a call and its answer
 pub record Step : Type 0 where
@@ -36,20 +37,20 @@ pub record Example : Type 0 where
 abbrev pub sameAnswer : Answer → Answer → Bool
 sameAnswer a c = eqb (a .refusal) (c .refusal) && eqb (a .first) (c .first) && eqb (a .second) (c .second)
 
-abbrev pub marksStand : Machine → Tables → List Mark → Bool
+abbrev pub marksStand : Record → Tables → List Mark → Bool
 marksStand m t [] = true
 marksStand m t (x ∷ xs) = eqb (markAt t (placeOf m (frame (x .at)))) (x .mark) && marksStand m t xs
 
--- each call is given the record and the tables as the last one left them
-abbrev pub stepsRight : List Step → List Mark → Machine → Tables → Bool
+-- each call is given the record and the tables as the last one left them, and no text: the boot has no regions
+abbrev pub stepsRight : List Step → List Mark → Record → Tables → Bool
 stepsRight [] marks m t = marksStand m t marks
 stepsRight (s ∷ ss) marks m t =
-    let o = perform (s .call) m t in
+    let o = perform (s .call) [] m t in
     sameAnswer (o .answer) (s .answer) && stepsRight ss marks (o .machine) (o .left)
 
 -- an example starts with a fresh record, 32 frames and 40 bitmap words
 unfoldable pub isRight : Example → Bool
-isRight e = stepsRight (e .steps) (e .marks) freshMachine (tables (replicate 32 0) (replicate 32 0) (replicate 40 0))
+isRight e = stepsRight (e .steps) (e .marks) freshRecord (tables (replicate 32 0) (replicate 32 0) (replicate 40 0))
 
 unfoldable pub allRight : List Example → Bool
 allRight [] = true

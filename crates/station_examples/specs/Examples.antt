@@ -4,16 +4,16 @@ use mathlib.Core.Bool.{true}
 use mathlib.Core.List.{List, [], _∷_, _++_}
 use Rattle.answer.specs.Answers.{done, refused}
 use Rattle.frames.specs.Units.{frame}
-use Rattle.rules.specs.Declare.{Request}
-use Rattle.rules.specs.Calls.{Call, putMovable, dropPage, pinPage, grant, release, declare, boot}
+use Rattle.rules.specs.declared.Call.the-variants as Call
+use Rattle.rules.specs.declared.Request.{Request}
 use Rattle.station_examples.specs.Claim.{Step, _answers_, Mark, _holds_, Example}
 
 -- P 4, n 32, b 2, no regions; then a fixed declare of frames 8 to 23
 abbrev frames8to23 : ℕ → Request
-frames8to23 k = record { base = 32768; size = 65536; limit = 0; alignment = 0; order = k; fixed = true }
+frames8to23 k = record { base = 32768; size = 65536; limit = 0; alignment = 0; «order_per_bit» = k; fixed = true }
 
 abbrev machineWith : ℕ → List Step
-machineWith k = boot 4 32 2 [] answers done 0 0 ∷ declare (frames8to23 k) answers done 8 16 ∷ []
+machineWith k = Call.Boot (frame 4) 32 2 answers done 0 0 ∷ Call.Declare (frames8to23 k) answers done 8 16 ∷ []
 
 abbrev machineA : List Step
 machineA = machineWith 0
@@ -21,17 +21,17 @@ machineA = machineWith 0
 -- movable puts of the names from `name` on, and the frames that they take
 abbrev puts : ℕ → List ℕ → List Step
 puts name [] = []
-puts name (f ∷ fs) = putMovable name answers done f 0 ∷ puts (suc name) fs
+puts name (f ∷ fs) = Call.PutMovable name answers done f 0 ∷ puts (suc name) fs
 
 abbrev E1 : List Step
-E1 = machineA ++ (grant 0 3 0 answers done 8 0 ∷ [])
+E1 = machineA ++ (Call.Grant 0 3 0 answers done 8 0 ∷ [])
 
 -- 18 movable puts, the 17th at 8 and the 18th at 9
 abbrev E6 : List Step
 E6 =
     machineA ++
     puts 1 (4 ∷ 5 ∷ 6 ∷ 7 ∷ 24 ∷ 25 ∷ 26 ∷ 27 ∷ 28 ∷ 29 ∷ 30 ∷ 31 ∷ 32 ∷ 33 ∷ 34 ∷ 35 ∷ 8 ∷ 9 ∷ []) ++
-    (grant 0 1 0 answers refused 8 ∷ [])
+    (Call.Grant 0 1 0 answers refused 8 ∷ [])
 
 abbrev example : List Step → List Mark → Example
 example steps marks = record { steps = steps; marks = marks }
@@ -41,19 +41,19 @@ examples =
     -- E1
     example E1 (8 holds 28 ∷ 9 holds 5 ∷ 10 holds 5 ∷ 11 holds 0 ∷ []) ∷
     -- E2
-    example (E1 ++ (grant 0 2 2 answers done 12 0 ∷ [])) [] ∷
+    example (E1 ++ (Call.Grant 0 2 2 answers done 12 0 ∷ [])) [] ∷
     -- E3, E4
-    example (machineA ++ (grant 0 8 4 answers done 16 0 ∷ [])) [] ∷
-    example (machineA ++ (grant 0 9 4 answers refused 7 ∷ [])) [] ∷
+    example (machineA ++ (Call.Grant 0 8 4 answers done 16 0 ∷ [])) [] ∷
+    example (machineA ++ (Call.Grant 0 9 4 answers refused 7 ∷ [])) [] ∷
     -- E5
-    example (machineA ++ (grant 0 16 0 answers done 8 0 ∷ [])) [] ∷
-    example (machineA ++ (grant 0 17 0 answers refused 7 ∷ [])) [] ∷
+    example (machineA ++ (Call.Grant 0 16 0 answers done 8 0 ∷ [])) [] ∷
+    example (machineA ++ (Call.Grant 0 17 0 answers refused 7 ∷ [])) [] ∷
     -- E6: refused although frame 10 is free
     example E6 (10 holds 0 ∷ []) ∷
     -- E7: the page at 8 is name 17 and the one at 4 is name 1; name 18 moves from 9 into 4
-    example (E6 ++ (pinPage 17 answers done 0 0 ∷ dropPage 1 answers done 0 0 ∷ grant 0 1 0 answers done 9 1 ∷ [])) (4 holds 145 ∷ 8 holds 138 ∷ 9 holds 12 ∷ []) ∷
+    example (E6 ++ (Call.Pin 17 answers done 0 0 ∷ Call.Drop 1 answers done 0 0 ∷ Call.Grant 0 1 0 answers done 9 1 ∷ [])) (4 holds 145 ∷ 8 holds 138 ∷ 9 holds 12 ∷ []) ∷
     -- E8
-    example (E1 ++ (release 0 (frame 8) 2 answers refused 9 ∷ release 0 (frame 9) 1 answers refused 3 ∷ [])) [] ∷
+    example (E1 ++ (Call.Release 0 (frame 8) 2 answers refused 9 ∷ Call.Release 0 (frame 9) 1 answers refused 3 ∷ [])) [] ∷
     -- E9
-    example (machineWith 2 ++ (grant 0 5 0 answers done 8 0 ∷ grant 0 1 0 answers done 16 0 ∷ [])) (8 holds 44 ∷ 9 holds 5 ∷ 10 holds 5 ∷ 11 holds 5 ∷ 12 holds 5 ∷ 13 holds 0 ∷ 16 holds 12 ∷ []) ∷
+    example (machineWith 2 ++ (Call.Grant 0 5 0 answers done 8 0 ∷ Call.Grant 0 1 0 answers done 16 0 ∷ [])) (8 holds 44 ∷ 9 holds 5 ∷ 10 holds 5 ∷ 11 holds 5 ∷ 12 holds 5 ∷ 13 holds 0 ∷ 16 holds 12 ∷ []) ∷
     []

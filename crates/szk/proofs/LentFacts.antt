@@ -10,15 +10,15 @@ use lib.ListN.{length}
 use borrow.Author.Tests.{lt-ltb, le-ltb, ltb-false}
 use Rattle.search.proofs.Bools.{by-cases, clash, or-left, or-right}
 use Rattle.answer.specs.Answers.{refused}
-use Rattle.frames.specs.Tables.{tables}
-use Rattle.rules.specs.Record.{Machine}
-use Rattle.machine.specs.declared.Machine.{Machine as Given}
+use Rattle.frames.specs.Tables.{Tables}
+use Rattle.rules.specs.declared.Call.{Call}
+use Rattle.rules.specs.declared.Record.{Record}
+use Rattle.rules.specs.Outcomes.{Outcome, outcome}
+use Rattle.rules.specs.Calls.{perform}
 use Rattle.machine.specs.declared.Returned.{Returned}
-use Rattle.machine.specs.Given.{machineOf, outcomeOf}
-use Rattle.rules.specs.Outcomes.{Outcome}
-use Rattle.rules.specs.Calls.{Call, perform}
-use Rattle.szk.specs.Layout.{recordLength, answerLength, recordOf, numbersOf, answerNumbers, over}
-use Rattle.szk.specs.Exported.{lent, isShort, toldShort, givenBack, exported, Judged}
+use Rattle.szk.specs.Layout.{recordLength, answerLength, recordFrom, numbersOf, answerNumbers, over}
+use Rattle.szk.specs.Exported.{handed, isShort, toldShort, givenBack, exported}
+use Rattle.szk.specs.steps.Judged.{Judged}
 
 module _ (numbers answer : List ℕ) where
   pub no-room : length answer < answerLength → Judged numbers answer true (toldShort answer)
@@ -59,9 +59,9 @@ module _ {numbers answer after : List ℕ} {short : Bool} (j : Judged numbers an
       }
 
   -- a call that is not made
-  pub stopped : (call : Call) (marks words bitmap : List ℕ) → short ≡ true → lent numbers marks words bitmap after ≡ exported call (lent numbers marks words bitmap answer)
+  pub stopped : (call : Call) (text : List ℕ) (t : Tables) → short ≡ true → handed numbers t after ≡ exported call text (handed numbers t answer)
   unfolding exported
-  stopped call marks words bitmap e =
+  stopped call text t e =
       by-cases (isShort answer answerLength) (λ a. rw (j .left, a) refl)
       (λ a.
       by-cases (isShort numbers recordLength) (λ n. rw (j .left, a, n) refl)
@@ -69,20 +69,19 @@ module _ {numbers answer after : List ℕ} {short : Bool} (j : Judged numbers an
 
   -- a call that is made: on the record read, and what it returned is given back
   pub performed :
-      (call : Call) (marks words bitmap : List ℕ) {marks′ words′ bitmap′ numbers′ answer′ : List ℕ} {m : Given} {r : Returned} →
+      (call : Call) (text : List ℕ) (t : Tables) {t′ : Tables} {numbers′ answer′ : List ℕ} {m : Record} {r : Returned} →
       short ≡ false →
-      machineOf m ≡ recordOf numbers →
-      outcomeOf r marks′ words′ bitmap′ ≡ perform call (machineOf m) (tables marks words bitmap) →
-      numbers′ ≡ over (numbersOf (machineOf (r .machine))) numbers →
+      m ≡ recordFrom numbers →
+      outcome (r .machine .record) (r .answer) t′ ≡ perform call text m t →
+      numbers′ ≡ over (numbersOf (r .machine .record)) numbers →
       answer′ ≡ over (answerNumbers (r .answer)) after →
-      lent numbers′ marks′ words′ bitmap′ answer′ ≡ exported call (lent numbers marks words bitmap answer)
+      handed numbers′ t′ answer′ ≡ exported call text (handed numbers t answer)
   unfolding exported
-  performed call marks words bitmap {marks′} {words′} {bitmap′} {numbers′} {answer′} {m} {r} e loaded called given-numbers given-answer =
+  performed call text t {t′} {numbers′} {answer′} {m} {r} e loaded called given-numbers given-answer =
       let here = room e in
       let a = le-ltb (length answer) answerLength (here .answer-long) in
       let n = le-ltb (length numbers) recordLength (here .record-long) in
-      let back : lent numbers′ marks′ words′ bitmap′ answer′ ≡ givenBack (outcomeOf r marks′ words′ bitmap′) (lent numbers marks words bitmap answer) =
+      let back : handed numbers′ t′ answer′ ≡ givenBack (outcome (r .machine .record) (r .answer) t′) (handed numbers t answer) =
       rw (given-numbers, given-answer, here .kept) refl in
       back ∙
-      ap (λ (o : Outcome). givenBack o (lent numbers marks words bitmap answer))
-      (called ∙ ap (λ (x : Machine). perform call x (tables marks words bitmap)) loaded) ∙ rw (a, n) refl
+      ap (λ (o : Outcome). givenBack o (handed numbers t answer)) (called ∙ ap (λ (x : Record). perform call text x t) loaded) ∙ rw (a, n) refl

@@ -1,18 +1,21 @@
-// What every exported call begins and ends with: the lists that it is lent are judged, and the outcome is given back in them.
+// Every exported call: the lists that it is lent are judged, the call is performed on the record that they hold, and its outcome is given
+// back in them.
 ghost use mathlib.Core.Path.{_≡_};
 ghost use Prim.Native.Nat.{_≤_};
 ghost use lib.ListN.{length};
-ghost use Rattle.machine.specs.Given.{machineOf};
 ghost use Rattle.szk.specs.Layout.{recordLength, answerLength, numbersOf, answerNumbers, over};
-ghost use Rattle.szk.specs.Exported.{Judged};
+ghost use Rattle.szk.specs.Exported.{Exports};
+ghost use Rattle.szk.specs.steps.Judged.{Judged};
 use crate::layout;
 use answer::Answer;
 use answer::refusal;
+use machine::Machine;
 use machine::Returned;
+use rules::Call;
 
 // Whether the record or the answer is too short for a call. Either is refused as the wrong shape; an answer that is too short gets the
 // refusal's number alone.
-pub fn refuse_short(numbers: &[u64], answer: &mut [u64]) -> bool
+fn refuse_short(numbers: &[u64], answer: &mut [u64]) -> bool
     ensures { λ r. ⌜ Judged (now (numbers .entry)) (now (answer .entry)) r (now (answer .exit)) ⌝ }
 {
     if answer.len() < layout::ANSWER {
@@ -27,13 +30,34 @@ pub fn refuse_short(numbers: &[u64], answer: &mut [u64]) -> bool
 }
 
 // The record and the answer that a call returned are written over the numbers lent.
-pub fn give_back(numbers: &mut [u64], answer: &mut [u64], r: Returned)
+fn give_back(numbers: &mut [u64], answer: &mut [u64], r: Returned)
     requires { ⌜ (recordLength ≤ length (now numbers)) × (answerLength ≤ length (now answer)) ⌝ }
-    ensures { λ _. ⌜ now (numbers .exit) ≡ over (numbersOf (machineOf (r .machine))) (now (numbers .entry)) ⌝ }
+    ensures { λ _. ⌜ now (numbers .exit) ≡ over (numbersOf (r .machine .record)) (now (numbers .entry)) ⌝ }
     ensures { λ _. ⌜ now (answer .exit) ≡ over (answerNumbers (r .answer)) (now (answer .entry)) ⌝ }
 {
-    let m = r.machine;
+    let record = r.machine.record;
     let a = r.answer;
-    layout::store(numbers, m);
+    layout::store(numbers, record);
     layout::store_answer(answer, a);
+}
+
+// A call is performed on what its caller lends. The text is a boot's, and no other call reads it.
+pub fn call(
+    numbers: &mut [u64],
+    marks: &mut [u32],
+    words: &mut [u64],
+    bitmap: &mut [u64],
+    answer: &mut [u64],
+    call: Call,
+    text: &[u8],
+)
+    ensures { λ _. ⌜ Exports call (now (text .entry)) numbers marks words bitmap answer ⌝ }
+{
+    if refuse_short(numbers, answer) {
+        return;
+    }
+    let record = layout::load(numbers);
+    let m = Machine { record };
+    let r = m.perform(marks, words, bitmap, call, text);
+    give_back(numbers, answer, r);
 }

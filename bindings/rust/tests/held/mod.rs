@@ -61,5 +61,5 @@ impl Held {
 }
 
 fn request(r: &reference::Request) -> Request {
-    Request { base: r.base, size: r.size, limit: r.limit, alignment: r.alignment, order: r.order, fixed: r.fixed }
+    Request { base: r.base, size: r.size, limit: r.limit, alignment: r.alignment, order_per_bit: r.order, fixed: r.fixed }
 }

@@ -5,7 +5,7 @@ use native.Mathlib.Omega.{arith}
 use mathlib.Core.Path.{_≡_, refl, sym, ap, _∙_}
 use lib.ListN.{length, set, length-set}
 use Rattle.bitmap.specs.Bits.{changeBits}
-use Rattle.bitmap.specs.Words.{putIn}
+use Rattle.bitmap.specs.steps.Words.{putIn}
 use Rattle.bitmap.proofs.Runs.{change-none, change-out, change-turn}
 use Rattle.bitmap.proofs.change_from.Statement.{statement}
 use Rattle.bitmap.proofs.change_from.Tie as tie

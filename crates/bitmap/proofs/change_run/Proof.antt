@@ -3,7 +3,7 @@
 use native.Mathlib.Omega.{arith}
 use mathlib.Core.Path.{sym}
 use borrow.Author.Needs.{needs}
-use Rattle.bitmap.specs.Words.{putIn}
+use Rattle.bitmap.specs.steps.Words.{putIn}
 use Rattle.bitmap.proofs.Runs.{change-at, change-out}
 use Rattle.bitmap.proofs.change_run.Statement.{statement}
 use Rattle.bitmap.proofs.change_run.Tie as tie

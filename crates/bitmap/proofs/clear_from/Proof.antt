@@ -9,7 +9,7 @@ use lib.ListN.{getD}
 use Rattle.search.specs.Search.{every}
 use Rattle.search.proofs.Ranges.{every-none}
 use Rattle.bitmap.specs.Bits.{isClear}
-use Rattle.bitmap.specs.Words.{bitsOf}
+use Rattle.bitmap.specs.steps.Words.{bitsOf}
 use Rattle.bitmap.proofs.Word.{bits-none}
 use Rattle.bitmap.proofs.Runs.{clear-stop, clear-turn, run-out}
 use Rattle.bitmap.proofs.clear_from.Statement.{statement}

@@ -1,7 +1,7 @@
 -- `cases::load_part` meets its contract: the path ends within its buffer. Assumes nothing.
 use borrow.Author.Needs.{needs}
 use native.Mathlib.Omega.{arith}
-use Rattle.playback.proofs.Within.{appended-within}
+use Rattle.text.proofs.Within.{appended-within}
 use Rattle.cases.proofs.load_part.Statement.{statement}
 use Rattle.cases.proofs.load_part.Tie as tie
 

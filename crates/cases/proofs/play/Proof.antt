@@ -2,7 +2,7 @@
 use borrow.Author.Needs.{needs}
 use native.Mathlib.Omega.{arith}
 use Rattle.playback.proofs.Ran.{ran}
-use Rattle.playback.proofs.Within.{appended-within}
+use Rattle.text.proofs.Within.{appended-within}
 use Rattle.cases.proofs.play.Statement.{statement}
 use Rattle.cases.proofs.play.Tie as tie
 

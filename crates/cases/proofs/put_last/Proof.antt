@@ -1,7 +1,7 @@
 -- `cases::put_last` meets its contract: the last line ends within the buffer. Assumes nothing.
 use borrow.Author.Needs.{needs}
 use native.Mathlib.Omega.{arith}
-use Rattle.playback.proofs.Within.{appended-within}
+use Rattle.text.proofs.Within.{appended-within}
 use Rattle.cases.proofs.put_last.Statement.{statement}
 use Rattle.cases.proofs.put_last.Tie as tie
 

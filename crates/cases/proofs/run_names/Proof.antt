@@ -3,11 +3,12 @@ use borrow.Author.Needs.{needs}
 use Prim.Native.Nat.{_-_, _≤_}
 use native.Mathlib.Omega.{arith}
 use lib.ListN.{length}
+use Rattle.cases.specs.steps.Tallies.{mostFile}
 use Rattle.cases.proofs.run_names.Statement.{statement}
 use Rattle.cases.proofs.run_names.Tie as tie
 
 abbrev Inv-loop : tie.InvT-loop
-Inv-loop list every t₀ at₀ t at = (t .cases ≤ at) × (t .cases ≤ 65536) × (t .failed ≤ t .cases)
+Inv-loop list every t₀ at₀ t at = (t .cases ≤ at) × (t .cases ≤ mostFile) × (t .failed ≤ t .cases)
 
 abbrev μ-loop : tie.MeasureT-loop
 μ-loop list every t₀ at₀ t at = length list - at

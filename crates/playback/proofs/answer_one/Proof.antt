@@ -43,7 +43,7 @@ returns c =
     let given = c .before .before .before .before .before .before .before .before .before .before .before .before .before .before .before .before .before .before .before .before .before .before .before in
     let made = c .before .before .before .before .before .before .before .before .before .before .before .before .before .before .answer in
     let line = c .before .before .before .before .put-line in
-    one-answered (given .args .p) (now (given .args .out)) (lent-by given) (given .args .item) (given .args .size)
+    one-answered (given .args .p) (now (given .args .out)) (lent-by given) (given .args .call) (given .args .size)
     (made .result) (made .last .0) (made .last .1 .0) (made .last .1 .1 .0)
     (line .last .0) (line .result)
     (given .pre .0) (made .ensures) (line .ensures)

@@ -1,4 +1,5 @@
--- `records::body` meets its contract: each arm is its kind's line of the list of bodies, and the last kind is what the others leave below 13. Assumes nothing.
+-- `records::body` meets its contract: each arm is its kind's line of the list of bodies, and the last kind is what the others leave below
+-- 13. Assumes nothing.
 use Prim.Native.Nat.{zero-le}
 use native.Mathlib.Nat.{add-zero}
 use native.Mathlib.Omega.{arith}

@@ -1,4 +1,5 @@
--- `records::body_length` meets its contract: each arm is its kind's line of the list of bodies, and what no arm takes lies past the list. Assumes nothing.
+-- `records::body_length` meets its contract: each arm is its kind's line of the list of bodies, and what no arm takes lies past the
+-- list. Assumes nothing.
 use Prim.Native.Nat.{zero-le}
 use mathlib.Core.Path.{sym, ap}
 use Rattle.records.specs.Records.{bodyLength, bodyOf, bodies, sum}

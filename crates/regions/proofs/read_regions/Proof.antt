@@ -37,7 +37,7 @@ use denote.Builtin.{u8}
 use denote.Ref.{RefT, NamedLft, now}
 use denote.Signature.{plain, namedLft}
 use denote.Slice.{sliceTy, sliceVal, ShrSlice, slice-vals, shr-slice-tells, shr-slice-lawful, shr-slice-copy}
-use denote.Steps.{only, peeks, facts, heard, owned, nothing}
+use denote.Steps.{only, peeks, heard, owned, nothing}
 use denote.Struct.Laws as LL
 use denote.Triple.Statement.{Contract, Triple}
 use denote.Triple.Call.{calls-at, calls-at-last}
@@ -47,7 +47,7 @@ use denote.Triple.Table.{entered, cited}
 use denote.Triple.Walked.{says, Stays, stay-none-slice, walkOf, goes-none-slice, Walks, ends-at, walked, walk-meets}
 use denote.Exit.{yes}
 use denote.Triple.Clauses.{ensured, lasts}
-use Rattle.regions.specs.Outcome.{Holding, begun as begunOf, oneMore}
+use Rattle.regions.specs.steps.Progress.{Holding, begun as begunOf, oneMore}
 use Rattle.regions.specs.declared.Reader.{Reader}
 use Rattle.regions.specs.declared.Regions.{Regions}
 use Rattle.regions.specs.declared.list.Progress.{Progress}

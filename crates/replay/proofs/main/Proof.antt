@@ -5,13 +5,13 @@ use native.Mathlib.Omega.{arith}
 use mathlib.Core.Path.{_≡_}
 use lib.ListN.{length}
 use Rattle.playback.specs.Replay.{heldFrames, heldBitmapWords}
-use Rattle.replay.specs.Bounds.{Bounds}
+use Rattle.replay.specs.steps.Bounds.{block, Bounds}
 use Rattle.replay.proofs.main.Statement.{statement}
 use Rattle.replay.proofs.main.Tie as tie
 
 abbrev Inv-loop : tie.InvT-loop
 Inv-loop input₀ out₀ marks₀ words₀ bitmap₀ s₀ input out marks words bitmap s =
-    Bounds s × (length input ≡ 65536) × (length out ≡ 65536) × (length marks ≡ heldFrames) × (length words ≡ heldFrames) × (length bitmap ≡ heldBitmapWords)
+    Bounds s × (length input ≡ block) × (length out ≡ block) × (length marks ≡ heldFrames) × (length words ≡ heldFrames) × (length bitmap ≡ heldBitmapWords)
 
 abbrev μ-loop : tie.MeasureT-loop
 μ-loop input₀ out₀ marks₀ words₀ bitmap₀ s₀ input out marks words bitmap s = s .left

@@ -24,7 +24,8 @@ use Rattle.frames.specs.declared.Area.{Area}
 use Rattle.frames.specs.Units.{bit}
 use Rattle.frames.specs.Areas.{endOf, areDisjoint, perBit, bitCount, firstWord, bitsFor}
 use Rattle.frames.specs.Tables.{Tables}
-use Rattle.rules.specs.Record.{Machine, areaAt}
+use Rattle.rules.specs.declared.Record.{Record}
+use Rattle.rules.specs.Record.{areaAt}
 use Rattle.rules.specs.Shape.{areaRight, areaFits, shapeRight}
 use Rattle.rules.specs.DeviceCalls.{bitmapOf, placeOfBit}
 use Rattle.rules.proofs.Shapes.{shape-known}
@@ -36,7 +37,7 @@ use Rattle.bitmap.proofs.Changes.{run-changed, clear-kept}
 use Rattle.frames.proofs.AreaFacts.{first-word-suc}
 
 pub per-positive : (a : Area) → 0 < perBit a
-per-positive a = pow-pos (a .order)
+per-positive a = pow-pos (a .«order_per_bit»)
 
 -- a word of 0 has each bit clear; bits of the same word are the same
 pub zero-clear : (ws : List ℕ) (start j : ℕ) → getD ws (start + j / 64) 0 ≡ 0 → isClear ws start j ≡ true
@@ -48,13 +49,13 @@ unfolding isClear
 same-word ws vs start j e = ap (λ (w : ℕ). eqb (bitOf w (j % 64)) 0) e
 
 -- an area is its bits' frames
-area-bits : (m : Machine) (a : Area) → AreaFacts m a → bitCount a * perBit a ≡ a .count
+area-bits : (m : Record) (a : Area) → AreaFacts m a → bitCount a * perBit a ≡ a .count
 area-bits m a f =
     let order = f .order in
-    let blocks : a .count % 2 ^ m .order ≡ 0 = eqb-true (a .count % 2 ^ m .order) 0 (f .size) in
-    let whole : m .order ≡ (m .order - a .order) + a .order = omega arith in
+    let blocks : a .count % 2 ^ m .memory .«block_order» ≡ 0 = eqb-true (a .count % 2 ^ m .memory .«block_order») 0 (f .size) in
+    let whole : m .memory .«block_order» ≡ (m .memory .«block_order» - a .«order_per_bit») + a .«order_per_bit» = omega arith in
     let none : a .count % perBit a ≡ 0 =
-    sym (mod-mod-pow (a .count) (m .order - a .order) (a .order)) ∙
+    sym (mod-mod-pow (a .count) (m .memory .«block_order» - a .«order_per_bit») (a .«order_per_bit»)) ∙
     ap (λ (k : ℕ). a .count % 2 ^ k % perBit a) (sym whole) ∙
     ap (λ (x : ℕ). x % perBit a) blocks ∙
     zero-mod (perBit a)
@@ -63,7 +64,7 @@ area-bits m a f =
     omega arith
 
 -- a run of frames inside an area, from bit j on, has its bits in the area
-pub run-fits : (m : Machine) (a : Area) → AreaFacts m a → (j count : ℕ) → j * perBit a + count ≤ a .count → j + bitsFor a count ≤ bitCount a
+pub run-fits : (m : Record) (a : Area) → AreaFacts m a → (j count : ℕ) → j * perBit a + count ≤ a .count → j + bitsFor a count ≤ bitCount a
 run-fits m a f j count h =
     let all = area-bits m a f in
     let below : j ≤ bitCount a = le-of-mul-le-mul-right {m = j} {n = bitCount a} {k = perBit a} (omega arith) (per-positive a) in
@@ -81,8 +82,8 @@ bit-inside a j h =
     let fits = div-mul-le-self (a .count) (perBit a) in
     omega arith
 
-module _ (m : Machine) (t : Tables) (shape : shapeRight m t ≡ true) where
-  pub place-inside : (i j q : ℕ) → i < m .declared → j < bitCount (areaAt m i) → q < placeOfBit m i (bit j) .0 + perBit (areaAt m i) → q < m .frames
+module _ (m : Record) (t : Tables) (shape : shapeRight m t ≡ true) where
+  pub place-inside : (i j q : ℕ) → i < m .memory .declared → j < bitCount (areaAt m i) → q < placeOfBit m i (bit j) .0 + perBit (areaAt m i) → q < m .memory .frames
   place-inside i j q h k b =
       let area = area-facts m t shape i h in
       let low = area .low in
@@ -92,11 +93,11 @@ module _ (m : Machine) (t : Tables) (shape : shapeRight m t ≡ true) where
 
   -- ---- two areas
 
-  disjoint : (i k : ℕ) → k < i → i < m .declared → areDisjoint (areaAt m k) (areaAt m i) ≡ true
+  disjoint : (i k : ℕ) → k < i → i < m .memory .declared → areDisjoint (areaAt m k) (areaAt m i) ≡ true
   unfolding areaFits
   disjoint i k h b =
       every-all (λ k. areDisjoint (areaAt m k) (areaAt m i)) 0 i
-      (and-right (areaRight m (areaAt m i)) (every (λ k. areDisjoint (areaAt m k) (areaAt m i)) 0 i)
+      (and-right (areaRight (m .memory) (areaAt m i)) (every (λ k. areDisjoint (areaAt m k) (areaAt m i)) 0 i)
       (shape-known m t shape .areas-fit i b))
       k (omega arith) (omega arith)
 
@@ -115,8 +116,8 @@ module _ (m : Machine) (t : Tables) (shape : shapeRight m t ≡ true) where
 
   pub one-area :
       (i k f : ℕ) →
-      i < m .declared →
-      k < m .declared →
+      i < m .memory .declared →
+      k < m .memory .declared →
       areaAt m i .base .0 ≤ f → f < endOf (areaAt m i) → areaAt m k .base .0 ≤ f → f < endOf (areaAt m k) → i ≡ k
   one-area i k f u v a b c d =
       below-or-not k i (λ h. absurd (not-both i k f (disjoint i k h u) a b c d))
@@ -144,10 +145,10 @@ module _ (m : Machine) (t : Tables) (shape : shapeRight m t ≡ true) where
       let reach : firstWord (m .areas) (suc i) ≤ firstWord (m .areas) k = rw same at grow in
       omega arith
 
-  pub word-inside : (i j : ℕ) → i < m .declared → j < bitCount (areaAt m i) → bitmapOf m i + j / 64 < length (t .bitmap)
+  pub word-inside : (i j : ℕ) → i < m .memory .declared → j < bitCount (areaAt m i) → bitmapOf m i + j / 64 < length (t .bitmap)
   word-inside i j h b =
       let room = shape-known m t shape .bitmap-high in
-      let before = word-before i (m .declared) j h b in
+      let before = word-before i (m .memory .declared) j h b in
       omega arith
 
   pub words-apart :
@@ -158,7 +159,7 @@ module _ (m : Machine) (t : Tables) (shape : shapeRight m t ≡ true) where
 
 -- ---- a run of bits of one area
 
-module _ (m : Machine) (t : Tables) (shape : shapeRight m t ≡ true) (i j d : ℕ) (declared : i < m .declared) (fits : j + d ≤ bitCount (areaAt m i)) where
+module _ (m : Record) (t : Tables) (shape : shapeRight m t ≡ true) (i j d : ℕ) (declared : i < m .memory .declared) (fits : j + d ≤ bitCount (areaAt m i)) where
   module _ (f : ℕ → ℕ → ℕ) (x : ℕ) (c : Change f x) where
     pub run-here : (k : ℕ) → j ≤ k → k < j + d → isClear (changeBits f (t .bitmap) (bitmapOf m i) j d) (bitmapOf m i) k ≡ eqb x 0
     unfolding isClear
@@ -208,11 +209,11 @@ module _ (a : Area) (j count : ℕ) where
       let holds = up-low count (perBit a) (per-positive a) in
       omega arith
 
-module _ (m : Machine) (t : Tables) (shape : shapeRight m t ≡ true) (i j count : ℕ) (declared : i < m .declared) (ends : areaAt m i .base .0 + j * perBit (areaAt m i) + count ≤ endOf (areaAt m i)) where
+module _ (m : Record) (t : Tables) (shape : shapeRight m t ≡ true) (i j count : ℕ) (declared : i < m .memory .declared) (ends : areaAt m i .base .0 + j * perBit (areaAt m i) + count ≤ endOf (areaAt m i)) where
   -- no other bit has a frame of the run
   pub bit-apart :
       (i′ k : ℕ) →
-      i′ < m .declared →
+      i′ < m .memory .declared →
       k < bitCount (areaAt m i′) →
       (i ≡ i′ → j ≤ k → k < j + bitsFor (areaAt m i) count → ⊥) →
       (q : ℕ) →
@@ -225,10 +226,10 @@ module _ (m : Machine) (t : Tables) (shape : shapeRight m t ≡ true) (i j count
       let low = area .low in
       let low′ = area′ .low in
       let inside = bit-inside (areaAt m i′) k b in
-      let same = one-area m t shape i i′ (m .base .0 + q) declared h (omega arith) (omega arith) (omega arith) (omega arith) in
+      let same = one-area m t shape i i′ (m .memory .base .0 + q) declared h (omega arith) (omega arith) (omega arith) (omega arith) in
       same-area same (subst (λ (z : ℕ). placeOfBit m z (bit k) .0 ≤ q) (sym same) u) (subst (λ (z : ℕ). q < placeOfBit m z (bit k) .0 + perBit (areaAt m z)) (sym same) v) low
     where
-      same-area : i ≡ i′ → placeOfBit m i (bit k) .0 ≤ q → q < placeOfBit m i (bit k) .0 + perBit (areaAt m i) → m .base .0 ≤ areaAt m i .base .0 → ⊥
+      same-area : i ≡ i′ → placeOfBit m i (bit k) .0 ≤ q → q < placeOfBit m i (bit k) .0 + perBit (areaAt m i) → m .memory .base .0 ≤ areaAt m i .base .0 → ⊥
       same-area e u′ v′ low =
           below-or-not k j (λ c. let before = before-run (areaAt m i) j count k c in omega arith)
           (λ c.

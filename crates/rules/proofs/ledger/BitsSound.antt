@@ -16,10 +16,11 @@ use Rattle.frames.specs.Units.{place, bit}
 use Rattle.frames.specs.Marks.{isGranted}
 use Rattle.frames.specs.Areas.{endOf, perBit, bitCount, bitsFor}
 use Rattle.frames.specs.Tables.{Tables, markAt}
-use Rattle.rules.specs.Record.{Machine, areaAt}
+use Rattle.rules.specs.declared.Record.{Record}
+use Rattle.rules.specs.Record.{areaAt}
 use Rattle.rules.specs.Shape.{shapeRight}
 use Rattle.rules.specs.DeviceCalls.{bitmapOf, placeOfBit}
-use Rattle.rules.specs.ledger.Invariant.{hasGranted, BitsSound}
+use Rattle.rules.specs.steps.Invariant.{hasGranted, BitsSound}
 use Rattle.rules.proofs.ledger.Names.{same-or-not}
 use Rattle.rules.proofs.ledger.FrameRuns.{in-run-or-not}
 use Rattle.rules.proofs.ledger.Grants.{GrantsKept, granted-same}
@@ -29,7 +30,7 @@ use Rattle.rules.proofs.ledger.BitRuns.{place-inside, run-here, run-els
 
 -- the frames of a bit are granted in one just where they are in the other
 pub granted-cong :
-    (m : Machine) (t t′ : Tables) (i j : ℕ) →
+    (m : Record) (t t′ : Tables) (i j : ℕ) →
     ((q : ℕ) →
     placeOfBit m i (bit j) .0 ≤ q → q < placeOfBit m i (bit j) .0 + perBit (areaAt m i) → isGranted (markAt t′ (place q)) ≡ isGranted (markAt t (place q))) →
     hasGranted m t′ i j ≡ hasGranted m t i j
@@ -37,7 +38,7 @@ granted-cong m t t′ i j same =
     some-cong (λ p. isGranted (markAt t′ (place p))) (λ p. isGranted (markAt t (place p))) (placeOfBit m i (bit j) .0) (perBit (areaAt m i)) same
 
 pub bits-kept :
-    (m : Machine) (t t′ : Tables) → shapeRight m t ≡ true → GrantsKept m t t′ → t′ .bitmap ≡ t .bitmap → BitsSound m t → BitsSound m t′
+    (m : Record) (t t′ : Tables) → shapeRight m t ≡ true → GrantsKept m t t′ → t′ .bitmap ≡ t .bitmap → BitsSound m t → BitsSound m t′
 bits-kept m t t′ shape kept bitmap old =
     record {
       clear = λ i j h b.
@@ -47,7 +48,7 @@ bits-kept m t t′ shape kept bitmap old =
     }
 
 -- the run of count frames from bit j of area i on
-module _ (m : Machine) (t t′ : Tables) (shape : shapeRight m t ≡ true) (i j count : ℕ) (declared : i < m .declared) (fits : j + bitsFor (areaAt m i) count ≤ bitCount (areaAt m i)) (ends : areaAt m i .base .0 + j * perBit (areaAt m i) + count ≤ endOf (areaAt m i)) where
+module _ (m : Record) (t t′ : Tables) (shape : shapeRight m t ≡ true) (i j count : ℕ) (declared : i < m .memory .declared) (fits : j + bitsFor (areaAt m i) count ≤ bitCount (areaAt m i)) (ends : areaAt m i .base .0 + j * perBit (areaAt m i) + count ≤ endOf (areaAt m i)) where
   pub bits-run :
       (f : ℕ → ℕ → ℕ) (x : ℕ) →
       Change f x →
@@ -76,7 +77,7 @@ module _ (m : Machine) (t t′ : Tables) (shape : shapeRight m t ≡ true) (i j 
 
       else-where :
           (i′ k : ℕ) →
-          i′ < m .declared →
+          i′ < m .memory .declared →
           k < bitCount (areaAt m i′) →
           (i ≡ i′ → j ≤ k → k < j + bitsFor (areaAt m i) count → ⊥) → isClear new (bitmapOf m i′) k ≡ not (hasGranted m t′ i′ k)
       else-where i′ k h b apart =

@@ -16,18 +16,19 @@ use Rattle.frames.specs.Marks.{isGranted}
 use Rattle.frames.specs.Areas.{perBit}
 use Rattle.frames.specs.Tables.{Tables, markAt, wordAt}
 use Rattle.regions.specs.declared.Region.{Region}
-use Rattle.regions.specs.Reading.{Read, gives, refuses, _then_, refuseIf}
-use Rattle.regions.specs.Text.{regions}
-use Rattle.rules.specs.Record.{Machine, areaAt, frameAt}
-use Rattle.rules.specs.Limits.{mostAreas}
+use Rattle.text.specs.Reading.{Read, gives, refuses, _then_, refuseIf}
+use Rattle.regions.specs.Text.{mostRegions, regions}
+use Rattle.rules.specs.declared.Record.{Record}
+use Rattle.rules.specs.Record.{bareRecord, areaAt, frameAt}
+use Rattle.rules.specs.Limits.{mostAreaNumbers}
 use Rattle.rules.specs.Shape.{memoryRight, lengthsRight, shapeRight}
 use Rattle.rules.specs.DeviceCalls.{bitmapOf, placeOfBit}
 use Rattle.rules.specs.Declare.{withArea}
-use Rattle.rules.specs.Boot.{bareMachine, zeroTables, requestOf, declareAll, bootRecord, booted, boot}
+use Rattle.rules.specs.Boot.{zeroTables, requestOf, declareAll, bootRecord, booted, boot}
 use Rattle.rules.proofs.Shapes.{shape-known}
 use Rattle.rules.specs.ledger.Ledger.{emptyLedger, isAmong}
-use Rattle.rules.specs.ledger.Runs.{isRefused}
-use Rattle.rules.specs.ledger.Invariant.{BitsSound, Sound}
+use Rattle.rules.specs.ledger.Lists.{isRefused}
+use Rattle.rules.specs.steps.Invariant.{BitsSound, Sound}
 use Rattle.frames.proofs.FillFacts.{length-fill}
 use Rattle.rules.proofs.ShapeFacts.{shape-lengths}
 use Rattle.rules.proofs.ledger.BitRuns.{zero-clear, place-inside, word-inside}
@@ -37,29 +38,29 @@ use Rattle.rules.proofs.BareShape.{bare-shape}
 use Rattle.regions.proofs.Refusals.{Sound as ReadSound, sound-regions}
 
 -- the record that a boot makes has the right shape, or its refusal has a number
-abbrev pub Fine : Tables → Read Machine → Type 0
-Fine t (gives m at) = (shapeRight m t ≡ true) × (length (m .areas) ≡ mostAreas)
+abbrev pub Fine : Tables → Read Record → Type 0
+Fine t (gives m at) = (shapeRight m t ≡ true) × (length (m .areas) ≡ mostAreaNumbers)
 Fine t (refuses number at) = 0 < number
 
 fine-lengths :
     (t t′ : Tables) →
     length (t′ .marks) ≡ length (t .marks) →
-    length (t′ .words) ≡ length (t .words) → length (t′ .bitmap) ≡ length (t .bitmap) → (r : Read Machine) → Fine t′ r → Fine t r
+    length (t′ .words) ≡ length (t .words) → length (t′ .bitmap) ≡ length (t .bitmap) → (r : Read Record) → Fine t′ r → Fine t r
 fine-lengths t t′ a b c (gives m at) f = (sym (shape-lengths m t t′ a b c) ∙ f .0, f .1)
 fine-lengths t t′ a b c (refuses number at) f = f
 
 fine-then :
-    (t : Tables) (P : List Region → Type 0) (r : Read (List Region)) (next : List Region → ℕ → Read Machine) →
+    (t : Tables) (P : List Region → Type 0) (r : Read (List Region)) (next : List Region → ℕ → Read Record) →
     ReadSound P r → ((rs : List Region) (at : ℕ) → Fine t (next rs at)) → Fine t (r then next)
 fine-then t P (gives rs at) next n all = all rs at
 fine-then t P (refuses number at) next n all = n
 
-fine-if : (t : Tables) (test : Bool) (number at : ℕ) (r : Read Machine) → 0 < number → (test ≡ false → Fine t r) → Fine t (refuseIf test number at r)
+fine-if : (t : Tables) (test : Bool) (number at : ℕ) (r : Read Record) → 0 < number → (test ≡ false → Fine t r) → Fine t (refuseIf test number at r)
 fine-if t true number at r h f = h
 fine-if t false number at r h f = f refl
 
 -- the regions' declarations keep the shape
-declare-all : (rs : List Region) (i : ℕ) (m : Machine) (t : Tables) → shapeRight m t ≡ true → length (m .areas) ≡ mostAreas → Fine t (declareAll rs i m t)
+declare-all : (rs : List Region) (i : ℕ) (m : Record) (t : Tables) → shapeRight m t ≡ true → length (m .areas) ≡ mostAreaNumbers → Fine t (declareAll rs i m t)
 unfolding declareAll
 declare-all [] i m t shape records = (shape, records)
 declare-all (r ∷ rs) i m t shape records =
@@ -71,27 +72,27 @@ declare-all (r ∷ rs) i m t shape records =
     fine-lengths t (newTables m (requestOf r) t) refl refl (length-fill 0 (t .bitmap) _ _) (declareAll rs (suc i) next (newTables m (requestOf r) t))
     (declare-all rs (suc i) next (newTables m (requestOf r) t) (declared-shape m (requestOf r) t shape records d) (declared-records m (requestOf r) t shape records d)))
 
-module _ (base frames order : ℕ) (text : List ℕ) (t : Tables) where
-  pub boot-fine : Fine (zeroTables t) (bootRecord base frames order text t)
+module _ (base frames blockOrder : ℕ) (text : List ℕ) (t : Tables) where
+  pub boot-fine : Fine (zeroTables t) (bootRecord base frames blockOrder text t)
   unfolding bootRecord
   boot-fine =
-      fine-if (zeroTables t) (not (memoryRight base frames order && lengthsRight frames t)) 1 0 _ (omega arith)
+      fine-if (zeroTables t) (not (memoryRight base frames blockOrder && lengthsRight frames t)) 1 0 _ (omega arith)
       (λ e.
-      fine-then (zeroTables t) (λ rs. length rs ≤ 8) (regions text) _ (sound-regions text)
+      fine-then (zeroTables t) (λ rs. length rs ≤ mostRegions) (regions text) _ (sound-regions text)
       (λ rs at.
-      declare-all rs 0 (bareMachine base frames order) (zeroTables t) (bare-shape base frames order t (not-false (memoryRight base frames order && lengthsRight frames t) e))
+      declare-all rs 0 (bareRecord base frames blockOrder) (zeroTables t) (bare-shape base frames blockOrder t (not-false (memoryRight base frames blockOrder && lengthsRight frames t) e))
       refl))
 
 -- ---- an accepted boot
 
-module _ (m : Machine) (t : Tables) (shape : shapeRight m (zeroTables t) ≡ true) (records : length (m .areas) ≡ mostAreas) where
-  zero-mark : (q : ℕ) → q < m .frames → markAt (zeroTables t) (place q) ≡ 0
+module _ (m : Record) (t : Tables) (shape : shapeRight m (zeroTables t) ≡ true) (records : length (m .areas) ≡ mostAreaNumbers) where
+  zero-mark : (q : ℕ) → q < m .memory .frames → markAt (zeroTables t) (place q) ≡ 0
   zero-mark q h =
       let s = shape-known m (zeroTables t) shape in
       let n = sym (length-replicate (length (t .marks)) 0) ∙ s .marks-length in
       getD-replicate (length (t .marks)) q 0 0 (rw n h)
 
-  zero-word : (q : ℕ) → q < m .frames → wordAt (zeroTables t) (place q) ≡ 0
+  zero-word : (q : ℕ) → q < m .memory .frames → wordAt (zeroTables t) (place q) ≡ 0
   zero-word q h =
       let s = shape-known m (zeroTables t) shape in
       let n = sym (length-replicate (length (t .words)) 0) ∙ s .words-length in
@@ -127,22 +128,22 @@ module _ (m : Machine) (t : Tables) (shape : shapeRight m (zeroTables t) ≡ tru
         grants = λ g e. clash (isAmong [] g) e (among-none g);
         covered = λ q h. at-none (frameAt m (place q)) ∙ rw (zero-mark q h);
         total =
-            let none = many-zero (λ p. isGranted (markAt (zeroTables t) (place p))) 0 (m .frames) (λ k a b. ap isGranted (zero-mark k (omega arith))) in
+            let none = many-zero (λ p. isGranted (markAt (zeroTables t) (place p))) 0 (m .memory .frames) (λ k a b. ap isGranted (zero-mark k (omega arith))) in
             omega arith;
         bits = zero-bits;
       }
 
 outcome-sound :
-    (given : Machine) (t : Tables) (r : Read Machine) →
+    (given : Record) (t : Tables) (r : Read Record) →
     Fine (zeroTables t) r →
     isRefused (booted given t r) ≡ false → Sound (booted given t r .machine) (booted given t r .left) emptyLedger
 outcome-sound given t (gives m at) f e = zero-sound m t (f .0) (f .1)
 outcome-sound given t (refuses number at) f e = let none = eqb-true number 0 (not-false (eqb number 0) e) in absurd (omega arith)
 
 pub boot-sound :
-    (given : Machine) (base frames order : ℕ) (text : List ℕ) (t : Tables) →
-    isRefused (boot given base frames order text t) ≡ false →
-    Sound (boot given base frames order text t .machine) (boot given base frames order text t .left) emptyLedger
+    (given : Record) (base frames blockOrder : ℕ) (text : List ℕ) (t : Tables) →
+    isRefused (boot given base frames blockOrder text t) ≡ false →
+    Sound (boot given base frames blockOrder text t .machine) (boot given base frames blockOrder text t .left) emptyLedger
 unfolding boot
-boot-sound given base frames order text t e =
-    outcome-sound given t (bootRecord base frames order text t) (boot-fine base frames order text t) e
+boot-sound given base frames blockOrder text t e =
+    outcome-sound given t (bootRecord base frames blockOrder text t) (boot-fine base frames blockOrder text t) e

@@ -8,6 +8,7 @@ use native.Mathlib.Omega.{arith}
 use mathlib.Core.Bool.{Bool, true, false, not, _&&_}
 use mathlib.Core.List.{List, [], _∷_}
 use mathlib.Core.Path.{_≡_, refl, sym, ap, subst, _∙_}
+use lib.Dec.{eqb}
 use lib.ListN.{length, set, length-replicate}
 use borrow.Author.Tests.{not-false}
 use Rattle.search.specs.Choice.{if_then_else_}
@@ -18,9 +19,13 @@ use Rattle.frames.specs.declared.Frame.{Frame}
 use Rattle.frames.specs.Units.{place}
 use Rattle.frames.specs.Marks.{fieldOf, markOf, hasKind, isPageOf, isGranted, movable}
 use Rattle.frames.specs.Tables.{Tables, markAt, wordAt, setPage, fill, fillPages, withBitmap}
-use Rattle.regions.specs.Reading.{Read, gives, refuses}
-use Rattle.rules.specs.Record.{Machine, placeOf, frameAt}
-use Rattle.rules.specs.Declare.{Request, isVacant, fitsAt, highestFit}
+use Rattle.text.specs.Reading.{Read, gives, refuses}
+use Rattle.rules.specs.declared.Call.{Call}
+use Rattle.rules.specs.declared.Call.the-variants as Call
+use Rattle.rules.specs.declared.Request.{Request}
+use Rattle.rules.specs.declared.Record.{Record}
+use Rattle.rules.specs.Record.{placeOf, frameAt}
+use Rattle.rules.specs.Declare.{isVacant, fitsAt, highestFit}
 use Rattle.rules.specs.Shape.{shapeWrong}
 use Rattle.rules.specs.Outcomes.{Outcome, outcome, Check, _⇒_, refuse, checked, Passed}
 use Rattle.rules.specs.PageCalls.{pageAt, isLive, freeOrdinary, freeInArea, putAt}
@@ -30,13 +35,15 @@ use Rattle.rules.specs.DeviceCalls as Device
 use Rattle.rules.specs.Declare as Declare
 use Rattle.rules.specs.Boot.{zeroTables, bootRecord, booted}
 use Rattle.rules.specs.Boot as Boot
-use Rattle.rules.specs.Calls.{Call, putMovable, putFixed, dropPage, pinPage, unpinPage, storePage, readPage, grant, release, deviceStore, deviceRead, declare, boot, perform}
-use Rattle.rules.specs.ledger.Runs.{isRefused, isBoot, SameCall, same, otherWord, withoutWord, seen}
+use Rattle.rules.specs.Calls.{perform}
+use Rattle.rules.specs.ledger.Roles.{roleOf}
+use Rattle.rules.specs.ledger.Lists.{isRefused, SameCall, same, otherWord, withoutWord, seen}
 use Rattle.rules.proofs.ledger.Marks.{page-of, page-field, page-named, mark-kind, mark-field, granted-page}
+use Rattle.rules.proofs.EachCall.{otherWords, shapeFirst, each-twice}
 use Rattle.rules.proofs.ShapeFacts.{shape-lengths}
 use Rattle.rules.proofs.promises.Boots.{record-lengths}
 use Rattle.rules.proofs.ledger.Names.{live-here}
-use Rattle.rules.proofs.ledger.OtherWords.{isHidden, otherWords, SameWords, Alike, alike-words, to-alike, set-alike, fill-alike, bitmap-alike}
+use Rattle.rules.proofs.ledger.OtherWords.{isHidden, SameWords, Alike, alike-words, to-alike, set-alike, fill-alike, bitmap-alike}
 
 -- a word that is hidden is not seen
 seen-word : (hidden : Bool) → hidden ≡ true → (a : Answer) → (if hidden then withoutWord a else a) ≡ withoutWord a
@@ -50,7 +57,7 @@ pub record SeenAlike (hides : ℕ → Bool) (c c′ : Call) (o o′ : Outcome) :
 
 -- the shape is the same in both, and all other checks are
 checked-alike :
-    (P : Outcome → Outcome → Type 0) (m : Machine) (t t′ : Tables) (wrong wrong′ : Bool) (rest : List Check) (o o′ : Outcome) →
+    (P : Outcome → Outcome → Type 0) (m : Record) (t t′ : Tables) (wrong wrong′ : Bool) (rest : List Check) (o o′ : Outcome) →
     ((number : ℕ) → P (refuse m t number) (refuse m t′ number)) →
     wrong ≡ wrong′ →
     (Passed rest → P o o′) → P (checked m t (wrong ⇒ 1 ∷ rest) o) (checked m t′ (wrong′ ⇒ 1 ∷ rest) o′)
@@ -64,53 +71,54 @@ checked-alike P m t t′ wrong wrong′ rest o o′ refusal e passed =
 
 -- ---- a call that is refused
 
-same-shape : (m : Machine) (t : Tables) (words : List ℕ) → length words ≡ length (t .words) → shapeWrong m t ≡ shapeWrong m (otherWords t words)
+same-shape : (m : Record) (t : Tables) (words : List ℕ) → length words ≡ length (t .words) → shapeWrong m t ≡ shapeWrong m (otherWords t words)
 same-shape m t words e = ap not (sym (shape-lengths m t (otherWords t words) refl e refl))
 
 -- what is refused in one run has the same answer in the other
 abbrev pub RefusedAlike : Outcome → Outcome → Type 0
 RefusedAlike o o′ = isRefused o ≡ true → o′ .answer ≡ o .answer
 
-module _ (m : Machine) (t : Tables) (words : List ℕ) (same-length : length words ≡ length (t .words)) where
+module _ (m : Record) (t : Tables) (words : List ℕ) (same-length : length words ≡ length (t .words)) where
   checks-refused :
       (rest : List Check) (o o′ : Outcome) →
-      isRefused o ≡ false →
-      RefusedAlike (checked m t (shapeWrong m t ⇒ 1 ∷ rest) o) (checked m (otherWords t words) (shapeWrong m (otherWords t words) ⇒ 1 ∷ rest) o′)
+      o .answer .refusal ≡ 0 → RefusedAlike (shapeFirst m t rest o) (shapeFirst m (otherWords t words) rest o′)
   checks-refused rest o o′ accepted =
       checked-alike RefusedAlike m t (otherWords t words) _ _ rest o o′ (λ n e. refl) (same-shape m t words same-length)
-      (λ _ e. clash (isRefused o) e accepted)
+      (λ _ e. clash (isRefused o) e (ap (λ (n : ℕ). not (eqb n 0)) accepted))
 
-  boot-refused : (r : Read Machine) → RefusedAlike (booted m t r) (booted m (otherWords t words) r)
-  boot-refused (gives new at) e = refl
-  boot-refused (refuses number at) e = refl
+  booted-refused : (r : Read Record) → RefusedAlike (booted m t r) (booted m (otherWords t words) r)
+  booted-refused (gives new at) e = refl
+  booted-refused (refuses number at) e = refl
 
-  call-refused : (c : Call) → RefusedAlike (perform c m t) (perform c m (otherWords t words))
-  unfolding Page.putPage Page.dropPage Page.changeKind Page.storePage Page.readPage pageAt putAt freeOrdinary freeInArea Device.grant Device.release Device.deviceStore Device.deviceRead chosen isGrantable isCandidate movers targets laterFrames Declare.declare isVacant fitsAt highestFit Boot.boot
-  call-refused (putMovable name) = checks-refused _ _ _ refl
-  call-refused (putFixed name) = checks-refused _ _ _ refl
-  call-refused (dropPage name) = checks-refused _ _ _ refl
-  call-refused (pinPage name) = checks-refused _ _ _ refl
-  call-refused (unpinPage name) = checks-refused _ _ _ refl
-  call-refused (storePage name word) = checks-refused _ _ _ refl
-  call-refused (readPage name) = checks-refused _ _ _ refl
-  call-refused (grant area count order) = checks-refused _ _ _ refl
-  call-refused (release area f count) = checks-refused _ _ _ refl
-  call-refused (deviceStore f word) = checks-refused _ _ _ refl
-  call-refused (deviceRead f) = checks-refused _ _ _ refl
-  call-refused (declare request) = checks-refused _ _ _ refl
-  call-refused (boot base frames order text) =
-      rw (record-lengths t (otherWords t words) (record { marks = refl; words = same-length; bitmap = refl }) base frames order text)
-      (boot-refused (bootRecord base frames order text t))
+  boot-refused :
+      (base frames blockOrder : ℕ) (text : List ℕ) →
+      RefusedAlike (Boot.boot m base frames blockOrder text t) (Boot.boot m base frames blockOrder text (otherWords t words))
+  unfolding Boot.boot
+  boot-refused base frames blockOrder text =
+      rw (record-lengths t (otherWords t words) (record { marks = refl; words = same-length; bitmap = refl }) base frames blockOrder text)
+      (booted-refused (bootRecord base frames blockOrder text t))
 
-  -- the words that would have been stored may differ
-  pub refused-alike : {hides : ℕ → Bool} {c d : Call} → SameCall hides c d → RefusedAlike (perform c m t) (perform d m (otherWords t words))
-  unfolding Page.storePage pageAt
-  refused-alike (same c) = call-refused c
-  refused-alike (otherWord name word word′ e) = checks-refused _ _ _ refl
+call-refused :
+    (c : Call) (text : List ℕ) (m : Record) (t : Tables) (words : List ℕ) →
+    length words ≡ length (t .words) → RefusedAlike (perform c text m t) (perform c text m (otherWords t words))
+call-refused =
+    each-twice (λ c m t words o o′. length words ≡ length (t .words) → RefusedAlike o o′)
+    (λ c m t words rest o o′ nums accepted same-length. checks-refused m t words same-length rest o o′ accepted)
+    (λ base frames blockOrder text m t words same-length. boot-refused m t words same-length (base .0) frames blockOrder text)
+
+-- the words that would have been stored may differ
+pub refused-alike :
+    (m : Record) (t : Tables) (words : List ℕ) →
+    length words ≡ length (t .words) →
+    {hides : ℕ → Bool} {c d : Call} →
+    SameCall hides c d → (text : List ℕ) → RefusedAlike (perform c text m t) (perform d text m (otherWords t words))
+unfolding Page.storePage pageAt
+refused-alike m t words e (same c) text = call-refused c text m t words e
+refused-alike m t words e (otherWord name word word′ chosen) text = checks-refused m t words e _ _ _ refl
 
 -- ---- a call on the runs' own tables
 
-module _ (hides : ℕ → Bool) (m : Machine) (t : Tables) (words : List ℕ) (s : SameWords hides t words) where
+module _ (hides : ℕ → Bool) (m : Record) (t : Tables) (words : List ℕ) (s : SameWords hides t words) where
   abbrev t′ : Tables
   t′ = otherWords t words
 
@@ -144,7 +152,7 @@ module _ (hides : ℕ → Bool) (m : Machine) (t : Tables) (words : List ℕ) (s
       ((number : ℕ) → seen hides c (refused number) ≡ seen hides c′ (refused number)) →
       (rest : List Check) (o o′ : Outcome) →
       (Passed rest → SeenAlike hides c c′ o o′) →
-      SeenAlike hides c c′ (checked m t (shapeWrong m t ⇒ 1 ∷ rest) o) (checked m t′ (shapeWrong m t′ ⇒ 1 ∷ rest) o′)
+      SeenAlike hides c c′ (shapeFirst m t rest o) (shapeFirst m t′ rest o′)
   checks-alike c c′ e rest o o′ passed =
       checked-alike (SeenAlike hides c c′) m t t′ _ _ rest o o′ (λ number. unchanged c c′ (refused number) (refused number) (e number))
       (same-shape m t words (s .lengths)) passed
@@ -155,11 +163,11 @@ module _ (hides : ℕ → Bool) (m : Machine) (t : Tables) (words : List ℕ) (s
       checks-alike c c (λ _. refl) _ _ _
       (λ passed. one-frame c c _ (putAt kind m t .0) (markOf name kind) 0 0 refl (λ _. refl))
 
-  drop-alike : (name : ℕ) → SeenAlike hides (dropPage name) (dropPage name) (Page.dropPage m name t) (Page.dropPage m name t′)
+  drop-alike : (name : ℕ) → SeenAlike hides (Call.Drop name) (Call.Drop name) (Page.dropPage m name t) (Page.dropPage m name t′)
   unfolding Page.dropPage pageAt
   drop-alike name =
-      checks-alike (dropPage name) (dropPage name) (λ _. refl) _ _ _
-      (λ passed. one-frame (dropPage name) (dropPage name) (done 0 0) (pageAt m t name .0) 0 0 0 refl (λ _. refl))
+      checks-alike (Call.Drop name) (Call.Drop name) (λ _. refl) _ _ _
+      (λ passed. one-frame (Call.Drop name) (Call.Drop name) (done 0 0) (pageAt m t name .0) 0 0 0 refl (λ _. refl))
 
   kind-alike :
       (c : Call) (from to name : ℕ) →
@@ -176,52 +184,52 @@ module _ (hides : ℕ → Bool) (m : Machine) (t : Tables) (words : List ℕ) (s
   store-alike :
       (name word word′ : ℕ) →
       (hides name ≡ false → word′ ≡ word) →
-      SeenAlike hides (storePage name word) (storePage name word′) (Page.storePage m name word t) (Page.storePage m name word′ t′)
+      SeenAlike hides (Call.Store name word) (Call.Store name word′) (Page.storePage m name word t) (Page.storePage m name word′ t′)
   unfolding Page.storePage pageAt
   store-alike name word word′ e =
-      checks-alike (storePage name word) (storePage name word′) (λ _. refl) _ _ _
+      checks-alike (Call.Store name word) (Call.Store name word′) (λ _. refl) _ _ _
       (λ passed.
       let live : isLive m t name ≡ true = not-false (isLive m t name) (passed .1 .0) in
-      one-frame (storePage name word) (storePage name word′) (done 0 0) (pageAt m t name .0) (markAt t (pageAt m t name)) word word′ refl
+      one-frame (Call.Store name word) (Call.Store name word′) (done 0 0) (pageAt m t name .0) (markAt t (pageAt m t name)) word word′ refl
       (λ h. e (sym (hidden-is name live) ∙ h)))
 
-  read-alike : (name : ℕ) → SeenAlike hides (readPage name) (readPage name) (Page.readPage m name t) (Page.readPage m name t′)
+  read-alike : (name : ℕ) → SeenAlike hides (Call.Read name) (Call.Read name) (Page.readPage m name t) (Page.readPage m name t′)
   unfolding Page.readPage pageAt
   read-alike name =
-      checks-alike (readPage name) (readPage name) (λ _. refl) _ _ _
+      checks-alike (Call.Read name) (Call.Read name) (λ _. refl) _ _ _
       (λ passed.
       let live : isLive m t name ≡ true = not-false (isLive m t name) (passed .1 .0) in
       let p = pageAt m t name in
       let first = frameAt m p .0 in
-      unchanged (readPage name) (readPage name) (done first (wordAt t p)) (done first (wordAt t′ p))
+      unchanged (Call.Read name) (Call.Read name) (done first (wordAt t p)) (done first (wordAt t′ p))
       (by-cases (hides name) (λ y. seen-word (hides name) y (done first (wordAt t p)) ∙ sym (seen-word (hides name) y (done first (wordAt t′ p))))
-      (λ n. ap (λ (x : ℕ). seen hides (readPage name) (done first x)) (sym (s .same (p .0) (hidden-is name live ∙ n))))))
+      (λ n. ap (λ (x : ℕ). seen hides (Call.Read name) (done first x)) (sym (s .same (p .0) (hidden-is name live ∙ n))))))
 
   device-store-alike :
       (f : Frame) (word : ℕ) →
-      SeenAlike hides (deviceStore f word) (deviceStore f word) (Device.deviceStore m f word t) (Device.deviceStore m f word t′)
+      SeenAlike hides (Call.DeviceStore f word) (Call.DeviceStore f word) (Device.deviceStore m f word t) (Device.deviceStore m f word t′)
   unfolding Device.deviceStore
   device-store-alike f word =
-      checks-alike (deviceStore f word) (deviceStore f word) (λ _. refl) _ _ _
+      checks-alike (Call.DeviceStore f word) (Call.DeviceStore f word) (λ _. refl) _ _ _
       (λ passed.
-      one-frame (deviceStore f word) (deviceStore f word) (done 0 0) (placeOf m f .0) (markAt t (placeOf m f)) word word refl (λ _. refl))
+      one-frame (Call.DeviceStore f word) (Call.DeviceStore f word) (done 0 0) (placeOf m f .0) (markAt t (placeOf m f)) word word refl (λ _. refl))
 
-  device-read-alike : (f : Frame) → SeenAlike hides (deviceRead f) (deviceRead f) (Device.deviceRead m f t) (Device.deviceRead m f t′)
+  device-read-alike : (f : Frame) → SeenAlike hides (Call.DeviceRead f) (Call.DeviceRead f) (Device.deviceRead m f t) (Device.deviceRead m f t′)
   unfolding Device.deviceRead
   device-read-alike f =
-      checks-alike (deviceRead f) (deviceRead f) (λ _. refl) _ _ _
+      checks-alike (Call.DeviceRead f) (Call.DeviceRead f) (λ _. refl) _ _ _
       (λ passed.
       let mark = markAt t (placeOf m f) in
       let granted : isGranted mark ≡ true = not-false (isGranted mark) (passed .1 .0) in
-      unchanged (deviceRead f) (deviceRead f) (done (wordAt t (placeOf m f)) 0) (done (wordAt t′ (placeOf m f)) 0)
+      unchanged (Call.DeviceRead f) (Call.DeviceRead f) (done (wordAt t (placeOf m f)) 0) (done (wordAt t′ (placeOf m f)) 0)
       (ap (λ (x : ℕ). done x 0) (sym (s .same (placeOf m f .0) (ap (λ (b : Bool). b && hides (fieldOf mark)) (granted-page mark granted))))))
 
   release-alike :
       (i : ℕ) (f : Frame) (count : ℕ) →
-      SeenAlike hides (release i f count) (release i f count) (Device.release m i f count t) (Device.release m i f count t′)
+      SeenAlike hides (Call.Release i f count) (Call.Release i f count) (Device.release m i f count t) (Device.release m i f count t′)
   unfolding Device.release laterFrames freeRun
   release-alike i f count =
-      checks-alike (release i f count) (release i f count) (λ _. refl) _ _ _
+      checks-alike (Call.Release i f count) (Call.Release i f count) (λ _. refl) _ _ _
       (λ passed.
       record {
         machine = refl;
@@ -232,10 +240,10 @@ module _ (hides : ℕ → Bool) (m : Machine) (t : Tables) (words : List ℕ) (s
             (fill-alike hides count t words (placeOf m f .0) 0 0 s));
       })
 
-  declare-alike : (r : Request) → SeenAlike hides (declare r) (declare r) (Declare.declare m r t) (Declare.declare m r t′)
+  declare-alike : (r : Request) → SeenAlike hides (Call.Declare r) (Call.Declare r) (Declare.declare m r t) (Declare.declare m r t′)
   unfolding Declare.declare isVacant freeOrdinary fitsAt highestFit
   declare-alike r =
-      checks-alike (declare r) (declare r) (λ _. refl) _ _ _
+      checks-alike (Call.Declare r) (Call.Declare r) (λ _. refl) _ _ _
       (λ passed. record { machine = refl; answer = refl; left = to-alike hides _ words (bitmap-alike hides t words _ s) })
 
   move-alike : (p : ℕ) → Alike hides (movePage m t (place p)) (movePage m t′ (place p))
@@ -252,7 +260,7 @@ module _ (hides : ℕ → Bool) (m : Machine) (t : Tables) (words : List ℕ) (s
       (set-alike hides (setPage t (place q) mark word) (set words q word′) p 0 0 0 (set-alike hides t words q mark word word′ s (s .same p)) (λ _. refl))))
       (λ n. rw n (to-alike hides t words s))
 
-move-out-alike : (hides : ℕ → Bool) (m : Machine) (d p : ℕ) (t t′ : Tables) → Alike hides t t′ → Alike hides (moveOut m t (place p) d) (moveOut m t′ (place p) d)
+move-out-alike : (hides : ℕ → Bool) (m : Record) (d p : ℕ) (t t′ : Tables) → Alike hides t t′ → Alike hides (moveOut m t (place p) d) (moveOut m t′ (place p) d)
 unfolding moveOut
 move-out-alike hides m zero p t t′ a = a
 move-out-alike hides m (suc d) p t t′ a =
@@ -277,14 +285,15 @@ zero-alike hides t square =
       same = λ q h. refl;
     }
 
-module _ (hides : ℕ → Bool) (m : Machine) (t : Tables) (words : List ℕ) (s : SameWords hides t words) where
+module _ (hides : ℕ → Bool) (m : Record) (t : Tables) (words : List ℕ) (s : SameWords hides t words) where
   grant-alike :
-      (i count order : ℕ) →
-      SeenAlike hides (grant i count order) (grant i count order) (Device.grant m i count order t) (Device.grant m i count order (otherWords t words))
+      (i count alignOrder : ℕ) →
+      let c = Call.Grant i count alignOrder in
+      SeenAlike hides c c (Device.grant m i count alignOrder t) (Device.grant m i count alignOrder (otherWords t words))
   unfolding Device.grant chosen isGrantable isCandidate movers targets freeOrdinary takeRun
-  grant-alike i count order =
-      let c = grant i count order in
-      let p = placeOfBit m i (chosen m t i count order) .0 in
+  grant-alike i count alignOrder =
+      let c = Call.Grant i count alignOrder in
+      let p = placeOfBit m i (chosen m t i count alignOrder) .0 in
       checks-alike hides m t words s c c (λ _. refl) _ _ _
       (λ passed.
       record {
@@ -295,30 +304,31 @@ module _ (hides : ℕ → Bool) (m : Machine) (t : Tables) (words : List ℕ) (s
             (move-out-alike hides m count p t (otherWords t words) (to-alike hides t words s));
       })
 
-  same-alike : (c : Call) → isBoot c ≡ false → SeenAlike hides c c (perform c m t) (perform c m (otherWords t words))
-  same-alike (putMovable name) e = put-alike hides m t words s (putMovable name) 1 name
-  same-alike (putFixed name) e = put-alike hides m t words s (putFixed name) 3 name
-  same-alike (dropPage name) e = drop-alike hides m t words s name
-  same-alike (pinPage name) e = kind-alike hides m t words s (pinPage name) 1 2 name (page-named name (markOf name 2) (rw (mark-kind name 2 (omega arith))) (mark-field name 2 (omega arith)))
-  same-alike (unpinPage name) e = kind-alike hides m t words s (unpinPage name) 2 1 name (page-named name (markOf name 1) (rw (mark-kind name 1 (omega arith))) (mark-field name 1 (omega arith)))
-  same-alike (storePage name word) e = store-alike hides m t words s name word word (λ _. refl)
-  same-alike (readPage name) e = read-alike hides m t words s name
-  same-alike (grant area count order) e = grant-alike area count order
-  same-alike (release area f count) e = release-alike hides m t words s area f count
-  same-alike (deviceStore f word) e = device-store-alike hides m t words s f word
-  same-alike (deviceRead f) e = device-read-alike hides m t words s f
-  same-alike (declare request) e = declare-alike hides m t words s request
-  same-alike (boot base frames order text) e = clash true refl e
+  same-alike : (c : Call) (text : List ℕ) → roleOf c .isBoot ≡ false → SeenAlike hides c c (perform c text m t) (perform c text m (otherWords t words))
+  same-alike (Call.PutMovable name) text e = put-alike hides m t words s (Call.PutMovable name) 1 name
+  same-alike (Call.PutFixed name) text e = put-alike hides m t words s (Call.PutFixed name) 3 name
+  same-alike (Call.Drop name) text e = drop-alike hides m t words s name
+  same-alike (Call.Pin name) text e = kind-alike hides m t words s (Call.Pin name) 1 2 name (page-named name (markOf name 2) (rw (mark-kind name 2 (omega arith))) (mark-field name 2 (omega arith)))
+  same-alike (Call.Unpin name) text e = kind-alike hides m t words s (Call.Unpin name) 2 1 name (page-named name (markOf name 1) (rw (mark-kind name 1 (omega arith))) (mark-field name 1 (omega arith)))
+  same-alike (Call.Store name word) text e = store-alike hides m t words s name word word (λ _. refl)
+  same-alike (Call.Read name) text e = read-alike hides m t words s name
+  same-alike (Call.Grant area count alignOrder) text e = grant-alike area count alignOrder
+  same-alike (Call.Release area f count) text e = release-alike hides m t words s area f count
+  same-alike (Call.DeviceStore f word) text e = device-store-alike hides m t words s f word
+  same-alike (Call.DeviceRead f) text e = device-read-alike hides m t words s f
+  same-alike (Call.Declare request) text e = declare-alike hides m t words s request
+  same-alike (Call.Boot base frames blockOrder) text e = clash true refl e
 
 call-alike :
-    (hides : ℕ → Bool) (m : Machine) (t : Tables) (words : List ℕ) (s : SameWords hides t words) {c d : Call} →
-    SameCall hides c d → isBoot c ≡ false → SeenAlike hides c d (perform c m t) (perform d m (otherWords t words))
-call-alike hides m t words s (same c) b = same-alike hides m t words s c b
-call-alike hides m t words s (otherWord name word word′ e) b = store-alike hides m t words s name word word′ (λ n. clash (hides name) e n)
+    (hides : ℕ → Bool) (m : Record) (t : Tables) (words : List ℕ) (s : SameWords hides t words) {c d : Call} →
+    SameCall hides c d →
+    (text : List ℕ) → roleOf c .isBoot ≡ false → SeenAlike hides c d (perform c text m t) (perform d text m (otherWords t words))
+call-alike hides m t words s (same c) text b = same-alike hides m t words s c text b
+call-alike hides m t words s (otherWord name word word′ e) text b = store-alike hides m t words s name word word′ (λ n. clash (hides name) e n)
 
 pub own-alike :
-    (hides : ℕ → Bool) (m m′ : Machine) (t t′ : Tables) (c d : Call) →
-    SameCall hides c d → isBoot c ≡ false → m′ ≡ m → Alike hides t t′ → SeenAlike hides c d (perform c m t) (perform d m′ t′)
-own-alike hides m m′ t t′ c d call b e a =
-    subst (λ (x : Machine). SeenAlike hides c d (perform c m t) (perform d x t′)) (sym e)
-    (alike-words hides t t′ (λ x. SeenAlike hides c d (perform c m t) (perform d m x)) a (λ words s. call-alike hides m t words s call b))
+    (hides : ℕ → Bool) (m m′ : Record) (t t′ : Tables) (c d : Call) (text : List ℕ) →
+    SameCall hides c d → roleOf c .isBoot ≡ false → m′ ≡ m → Alike hides t t′ → SeenAlike hides c d (perform c text m t) (perform d text m′ t′)
+own-alike hides m m′ t t′ c d text call b e a =
+    subst (λ (x : Record). SeenAlike hides c d (perform c text m t) (perform d text x t′)) (sym e)
+    (alike-words hides t t′ (λ x. SeenAlike hides c d (perform c text m t) (perform d text m x)) a (λ words s. call-alike hides m t words s call text b))

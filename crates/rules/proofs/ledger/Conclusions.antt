@@ -13,12 +13,13 @@ use Rattle.frames.specs.declared.Frame.{Frame}
 use Rattle.frames.specs.Units.{frame, place}
 use Rattle.frames.specs.Marks.{kindOf, markOf, hasKind, isPageOf, isGranted, pinned}
 use Rattle.frames.specs.Tables.{Tables, markAt, wordAt}
-use Rattle.rules.specs.Record.{Machine, placeOf, frameAt, endFrame}
+use Rattle.rules.specs.declared.Record.{Record}
+use Rattle.rules.specs.Record.{placeOf, frameAt, endFrame}
 use Rattle.rules.specs.Outcomes.{Outcome, outcome}
 use Rattle.rules.specs.PageCalls.{pageAt, isLive, readPage}
 use Rattle.rules.specs.DeviceCalls.{deviceRead}
 use Rattle.rules.specs.ledger.Ledger.{grantsAt}
-use Rattle.rules.specs.ledger.Runs.{State, isRefused}
+use Rattle.rules.specs.ledger.Lists.{State, isRefused}
 use Rattle.rules.specs.ledger.Statement.{isLiveFrame, markOfPage, ReadsRight, PinsRight, GrantsRight, DeviceWordsRight}
 use Rattle.rules.proofs.Checks.{checked-cases, checked-passed}
 use Rattle.rules.proofs.ledger.Marks.{has-kind, kind-has, page-field}
@@ -30,7 +31,7 @@ use Rattle.rules.proofs.ledger.DeviceWords.{memory-low, memory-high}
 use Rattle.rules.proofs.ledger.Histories.{SoundState}
 
 module _ (s : State) (sound : SoundState s) where
-  abbrev m : Machine
+  abbrev m : Record
   m = s .machine
 
   abbrev t : Tables
@@ -55,7 +56,7 @@ module _ (s : State) (sound : SoundState s) where
     found : s .ledger .live name ≡ true → FoundPage m t (s .ledger) name
     found live = live-page m t (s .ledger) sound name (live-same ∙ live)
 
-    read-only : (p : ℕ) → p < m .frames → isPageOf name (markAt t (place p)) ≡ true → s .ledger .live name ≡ true
+    read-only : (p : ℕ) → p < m .memory .frames → isPageOf name (markAt t (place p)) ≡ true → s .ledger .live name ≡ true
     read-only p h e =
         by-cases (s .ledger .live name) (λ y. y) (λ n. clash (isPageOf name (markAt t (place p))) e (sound .names name .absent n p h))
 
@@ -67,12 +68,12 @@ module _ (s : State) (sound : SoundState s) where
             (λ dead. ap not (read-refused name dead) ∙ sym dead);
         word = λ name live. ap (λ (o : Outcome). o .answer .second) (read-done name live) ∙ found name live .word;
         stands = λ name live.
-            let answer : readPage m name t .answer .first ≡ m .base .0 + pageAt m t name .0 = ap (λ (o : Outcome). o .answer .first) (read-done name live) in
-            let back : readPage m name t .answer .first - m .base .0 ≡ pageAt m t name .0 = omega arith in
+            let answer : readPage m name t .answer .first ≡ m .memory .base .0 + pageAt m t name .0 = ap (λ (o : Outcome). o .answer .first) (read-done name live) in
+            let back : readPage m name t .answer .first - m .memory .base .0 ≡ pageAt m t name .0 = omega arith in
             ap (λ (x : ℕ). isPageOf name (markAt t (place x))) back ∙ found name live .here;
         onlyFrame = λ name p h e.
             let live = read-only name p h e in
-            ap (λ (x : ℕ). m .base .0 + x) (found name live .only p h e) ∙ sym (ap (λ (o : Outcome). o .answer .first) (read-done name live));
+            ap (λ (x : ℕ). m .memory .base .0 + x) (found name live .only p h e) ∙ sym (ap (λ (o : Outcome). o .answer .first) (read-done name live));
       }
 
   -- ---- (2) pinned pages
@@ -80,7 +81,7 @@ module _ (s : State) (sound : SoundState s) where
   module _ (name : ℕ) where
     page-mark : markOfPage s name ≡ markAt t (pageAt m t name)
     page-mark =
-        let back : m .base .0 + pageAt m t name .0 - m .base .0 ≡ pageAt m t name .0 = omega arith in
+        let back : m .memory .base .0 + pageAt m t name .0 - m .memory .base .0 ≡ pageAt m t name .0 = omega arith in
         ap (λ (x : ℕ). markAt t (place x)) back
 
     pin-found : s .ledger .pinned name ≡ true → FoundPage m t (s .ledger) name
@@ -111,7 +112,7 @@ module _ (s : State) (sound : SoundState s) where
   -- ---- (3) grants
 
   -- a frame of a live grant lies in memory
-  live-inside : (f : Frame) → 0 < grantsAt (s .ledger .grants) f → (m .base .0 ≤ f .0) × (f .0 < endFrame m)
+  live-inside : (f : Frame) → 0 < grantsAt (s .ledger .grants) f → (m .memory .base .0 ≤ f .0) × (f .0 < endFrame m)
   live-inside f h =
       let w = at-among (s .ledger .grants) f h in
       let g = sound .grants (w .by) (w .among) in
@@ -128,10 +129,10 @@ module _ (s : State) (sound : SoundState s) where
   one-least true = omega arith
   one-least false = omega arith
 
-  at-frame : (f : Frame) → m .base .0 ≤ f .0 → f .0 < endFrame m → grantsAt (s .ledger .grants) f ≡ one-if (isGranted (markAt t (placeOf m f)))
+  at-frame : (f : Frame) → m .memory .base .0 ≤ f .0 → f .0 < endFrame m → grantsAt (s .ledger .grants) f ≡ one-if (isGranted (markAt t (placeOf m f)))
   at-frame f low high =
-      let same : m .base .0 + (f .0 - m .base .0) ≡ f .0 = omega arith in
-      ap (λ (x : ℕ). grantsAt (s .ledger .grants) (frame x)) (sym same) ∙ sound .covered (f .0 - m .base .0) (omega arith)
+      let same : m .memory .base .0 + (f .0 - m .memory .base .0) ≡ f .0 = omega arith in
+      ap (λ (x : ℕ). grantsAt (s .ledger .grants) (frame x)) (sym same) ∙ sound .covered (f .0 - m .memory .base .0) (omega arith)
 
   marked-live : (b : Bool) (n : ℕ) → n ≡ one-if b → ltb 0 n ≡ b
   marked-live true n e = lt-ltb 0 n (omega arith)
@@ -167,8 +168,8 @@ module _ (s : State) (sound : SoundState s) where
         let inside = live-inside f (ltb-true 0 (grantsAt (s .ledger .grants) f) e) in
         let low = inside .0 in
         let high = inside .1 in
-        let same : m .base .0 + (f .0 - m .base .0) ≡ f .0 = omega arith in
-        sound .places (f .0 - m .base .0) (omega arith) .granted (live-granted e) ∙ ap (s .ledger .deviceWord) same
+        let same : m .memory .base .0 + (f .0 - m .memory .base .0) ≡ f .0 = omega arith in
+        sound .places (f .0 - m .memory .base .0) (omega arith) .granted (live-granted e) ∙ ap (s .ledger .deviceWord) same
 
     device-done : isLiveFrame s f ≡ true → deviceRead m f t ≡ outcome m (done (wordAt t (placeOf m f)) 0) t
     unfolding deviceRead
@@ -177,7 +178,7 @@ module _ (s : State) (sound : SoundState s) where
         checked-passed m t _ _ (
           ap not (sound .shape),
           (
-            or-neither (ltb (f .0) (m .base .0)) (leb (endFrame m) (f .0)) (le-ltb (f .0) (m .base .0) (inside .0)) (lt-leb (endFrame m) (f .0) (inside .1)),
+            or-neither (ltb (f .0) (m .memory .base .0)) (leb (endFrame m) (f .0)) (le-ltb (f .0) (m .memory .base .0) (inside .0)) (lt-leb (endFrame m) (f .0) (inside .1)),
             (ap not (live-granted e), tt),
           ),
         )

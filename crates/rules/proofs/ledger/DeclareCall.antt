@@ -13,15 +13,17 @@ use Rattle.frames.specs.Units.{place}
 use Rattle.frames.specs.Marks.{isGranted}
 use Rattle.frames.specs.Areas.{isMultiple, endOf, perBit, bitCount, wordCount}
 use Rattle.frames.specs.Tables.{Tables, markAt}
-use Rattle.rules.specs.Record.{Machine, areaAt}
-use Rattle.rules.specs.Declare.{Request, withArea, declare}
+use Rattle.rules.specs.declared.Call.the-variants as Call
+use Rattle.rules.specs.declared.Request.{Request}
+use Rattle.rules.specs.declared.Record.{Record}
+use Rattle.rules.specs.Record.{areaAt}
+use Rattle.rules.specs.Declare.{withArea, declare}
 use Rattle.rules.specs.Shape.{wordsNeeded}
 use Rattle.rules.specs.DeviceCalls.{bitmapOf}
 use Rattle.rules.specs.Outcomes.{outcome}
-use Rattle.rules.specs.Calls as Calls
 use Rattle.answer.specs.Answers.{done}
 use Rattle.rules.specs.ledger.Ledger.{Grant, Ledger}
-use Rattle.rules.specs.ledger.Invariant.{GrantSound, hasGranted, BitsSound, Sound}
+use Rattle.rules.specs.steps.Invariant.{GrantSound, hasGranted, BitsSound, Sound}
 use Rattle.rules.proofs.ledger.Marks.{has-kind, free-granted}
 use Rattle.frames.proofs.FillFacts.{getD-fill-in, getD-fill-below}
 use Rattle.rules.proofs.ledger.Kept.{Kept, kept-refused, pin-stays}
@@ -31,8 +33,8 @@ use Rattle.rules.proofs.AreaRight.{ordinary-free}
 use Rattle.rules.proofs.ledger.Names.{PagesKept, names-kept}
 use Rattle.rules.proofs.Placement.{newArea, newTables, Declarable, declare-cases, declared-shape, declared-records}
 
-module _ (m : Machine) (r : Request) (t : Tables) (l : Ledger) (s : Sound m t l) (d : Declarable m r t) where
-  abbrev m′ : Machine
+module _ (m : Record) (r : Request) (t : Tables) (l : Ledger) (s : Sound m t l) (d : Declarable m r t) where
+  abbrev m′ : Record
   m′ = withArea m (newArea m r t)
 
   abbrev t′ : Tables
@@ -66,23 +68,23 @@ module _ (m : Machine) (r : Request) (t : Tables) (l : Ledger) (s : Sound m t l)
 
   -- some frame of bit j of an area is granted
   abbrev grantedIn : ℕ → Area → Bool
-  grantedIn j x = some (λ p. isGranted (markAt t (place p))) (x .base .0 + j * perBit x - m .base .0) (perBit x)
+  grantedIn j x = some (λ p. isGranted (markAt t (place p))) (x .base .0 + j * perBit x - m .memory .base .0) (perBit x)
 
   -- the other areas' words come before the new one's, and their frames' marks are the same
-  old-bit : (i j : ℕ) → i < m .declared → j < bitCount (areaAt m′ i) → isClear (t′ .bitmap) (bitmapOf m′ i) j ≡ not (hasGranted m′ t′ i j)
+  old-bit : (i j : ℕ) → i < m .memory .declared → j < bitCount (areaAt m′ i) → isClear (t′ .bitmap) (bitmapOf m′ i) j ≡ not (hasGranted m′ t′ i j)
   old-bit i j h b =
       let same = area-old m t a (s .shape) (s .records) (d .more) i h in
       let inside : j < bitCount (areaAt m i) = subst (λ (x : Area). j < bitCount x) same b in
       ap (λ (start : ℕ). isClear (t′ .bitmap) start j) (words-old m t a (s .shape) (s .records) (d .more) i (omega arith)) ∙
       same-word (t′ .bitmap) (t .bitmap) (bitmapOf m i) j
-      (getD-fill-below 0 (t .bitmap) (wordsNeeded m) (wordCount a) (bitmapOf m i + j / 64) (word-before m t (s .shape) i (m .declared) j h inside)) ∙
+      (getD-fill-below 0 (t .bitmap) (wordsNeeded m) (wordCount a) (bitmapOf m i + j / 64) (word-before m t (s .shape) i (m .memory .declared) j h inside)) ∙
       s .bits .clear i j h inside ∙
       ap not (sym (ap (grantedIn j) same))
 
   -- the new area's words are 0, and its frames free
   new-bit :
       (j : ℕ) →
-      j < bitCount (areaAt m′ (m .declared)) → isClear (t′ .bitmap) (bitmapOf m′ (m .declared)) j ≡ not (hasGranted m′ t′ (m .declared) j)
+      j < bitCount (areaAt m′ (m .memory .declared)) → isClear (t′ .bitmap) (bitmapOf m′ (m .memory .declared)) j ≡ not (hasGranted m′ t′ (m .memory .declared) j)
   new-bit j b =
       let same = area-new m t a (s .shape) (s .records) (d .more) in
       let inside : j < bitCount a = subst (λ (x : Area). j < bitCount x) same b in
@@ -90,10 +92,10 @@ module _ (m : Machine) (r : Request) (t : Tables) (l : Ledger) (s : Sound m t l)
       let low = d .right .low in
       let room = d .room in
       let none : grantedIn j a ≡ false =
-      none-some (λ p. isGranted (markAt t (place p))) (a .base .0 + j * perBit a - m .base .0) (perBit a)
+      none-some (λ p. isGranted (markAt t (place p))) (a .base .0 + j * perBit a - m .memory .base .0) (perBit a)
       (λ q u v. free-granted (markAt t (place q)) (ordinary-free m t (place q) (d .vacant q (omega arith) (omega arith))))
       in
-      ap (λ (start : ℕ). isClear (t′ .bitmap) start j) (words-old m t a (s .shape) (s .records) (d .more) (m .declared) (omega arith)) ∙
+      ap (λ (start : ℕ). isClear (t′ .bitmap) start j) (words-old m t a (s .shape) (s .records) (d .more) (m .memory .declared) (omega arith)) ∙
       zero-clear (t′ .bitmap) (wordsNeeded m) j
       (getD-fill-in 0 (t .bitmap) (wordsNeeded m) (wordCount a) (wordsNeeded m + j / 64) (omega arith) (omega arith) (omega arith)) ∙
       ap not (sym (ap (grantedIn j) same ∙ none))
@@ -102,9 +104,9 @@ module _ (m : Machine) (r : Request) (t : Tables) (l : Ledger) (s : Sound m t l)
   declared-bits =
       record {
         clear = λ i j h b.
-            below-or-not i (m .declared) (λ low. old-bit i j low b)
+            below-or-not i (m .memory .declared) (λ low. old-bit i j low b)
             (λ high.
-            let here : i ≡ m .declared = omega arith in
+            let here : i ≡ m .memory .declared = omega arith in
             subst (λ (k : ℕ). isClear (t′ .bitmap) (bitmapOf m′ k) j ≡ not (hasGranted m′ t′ k j)) (sym here)
             (new-bit j (subst (λ (k : ℕ). j < bitCount (areaAt m′ k)) here b)));
       }
@@ -132,7 +134,7 @@ module _ (m : Machine) (r : Request) (t : Tables) (l : Ledger) (s : Sound m t l)
       }
 
   declared-kept :
-      Kept (Calls.declare r) m t l (outcome m′ (done (newArea m r t .base .0) (newArea m r t .count)) t′)
+      Kept (Call.Declare r) m t l (outcome m′ (done (newArea m r t .base .0) (newArea m r t .count)) t′)
   declared-kept =
       record {
         sound = declared-sound;
@@ -145,6 +147,6 @@ module _ (m : Machine) (r : Request) (t : Tables) (l : Ledger) (s : Sound m t l)
             };
       }
 
-pub declare-kept : (m : Machine) (r : Request) (t : Tables) (l : Ledger) → Sound m t l → Kept (Calls.declare r) m t l (declare m r t)
+pub declare-kept : (m : Record) (r : Request) (t : Tables) (l : Ledger) → Sound m t l → Kept (Call.Declare r) m t l (declare m r t)
 declare-kept m r t l s =
-    declare-cases (Kept (Calls.declare r) m t l) m r t (kept-refused (Calls.declare r) m t l s) (declared-kept m r t l s)
+    declare-cases (Kept (Call.Declare r) m t l) m r t (kept-refused (Call.Declare r) m t l s) (declared-kept m r t l s)

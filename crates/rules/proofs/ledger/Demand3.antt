@@ -1,4 +1,4 @@
--- Demand 3: the theorem of specs/Statement.antt. Assumes nothing.
+-- Demand 3: the theorem of specs/ledger/Statement.antt. Assumes nothing.
 use Prim.Native.Nat.{ℕ}
 use native.Mathlib.Omega.{arith}
 use mathlib.Core.Bool.{Bool, true, false}
@@ -9,12 +9,12 @@ use lib.ListN.{length, length-replicate}
 use borrow.Author.Tests.{eqb-true, not-false}
 use Rattle.search.proofs.Bools.{clash}
 use Rattle.frames.specs.Tables.{Tables}
-use Rattle.regions.specs.Reading.{Read, gives, refuses}
-use Rattle.rules.specs.Record.{Machine}
+use Rattle.text.specs.Reading.{Read, gives, refuses}
+use Rattle.rules.specs.declared.Record.{Record}
 use Rattle.rules.specs.Boot.{zeroTables, bootRecord, booted, boot}
 use Rattle.rules.proofs.Shapes.{shape-known}
 use Rattle.rules.specs.promises.Changes.{SameLengths}
-use Rattle.rules.specs.ledger.Runs.{Item, isRefused, startOf, after, admitted}
+use Rattle.rules.specs.ledger.Lists.{Item, isRefused, startOf, after, admitted}
 use Rattle.rules.specs.ledger.Statement.{Boot, outcomeOfBoot, startOfBoot, SameBoot, Theorem}
 use Rattle.rules.proofs.promises.Boots.{zero-lengths, record-lengths}
 use Rattle.rules.proofs.ledger.BootCall.{Fine, boot-fine, boot-sound}
@@ -25,9 +25,9 @@ use Rattle.rules.proofs.ledger.TwoRuns.{StatesAlike, lists-agree}
 
 -- two accepted boots that make the same record, lent tables of the same lengths
 outcome-alike :
-    (hides : ℕ → Bool) (given given′ : Machine) (t t′ : Tables) →
+    (hides : ℕ → Bool) (given given′ : Record) (t t′ : Tables) →
     SameLengths t t′ →
-    (r : Read Machine) →
+    (r : Read Record) →
     Fine (zeroTables t) r → isRefused (booted given t r) ≡ false → StatesAlike hides (startOf (booted given t r)) (startOf (booted given′ t′ r))
 outcome-alike hides given given′ t t′ l (gives m at) fine e =
     let shaped = shape-known m (zeroTables t) (fine .0) in
@@ -48,23 +48,23 @@ start-alike :
     (hides : ℕ → Bool) (b c : Boot) → SameBoot b c → isRefused (outcomeOfBoot b) ≡ false → StatesAlike hides (startOfBoot b) (startOfBoot c)
 unfolding boot
 start-alike hides b c same e =
-    let record-same : bootRecord (c .base) (c .frames) (c .order) (c .text) (c .lent) ≡ bootRecord (b .base) (b .frames) (b .order) (b .text) (b .lent) =
-    rw (same .base, same .frames, same .order, same .text)
-    (record-lengths (b .lent) (c .lent) (same .lengths) (c .base) (c .frames) (c .order) (c .text))
+    let record-same : bootRecord (c .base) (c .frames) (c .blockOrder) (c .text) (c .lent) ≡ bootRecord (b .base) (b .frames) (b .blockOrder) (b .text) (b .lent) =
+    rw (same .base, same .frames, same .blockOrder, same .text)
+    (record-lengths (b .lent) (c .lent) (same .lengths) (c .base) (c .frames) (c .blockOrder) (c .text))
     in
-    subst (λ (r : Read Machine). StatesAlike hides (startOfBoot b) (startOf (booted (c .given) (c .lent) r))) (sym record-same)
-    (outcome-alike hides (b .given) (c .given) (b .lent) (c .lent) (same .lengths) (bootRecord (b .base) (b .frames) (b .order) (b .text) (b .lent))
-    (boot-fine (b .base) (b .frames) (b .order) (b .text) (b .lent)) e)
+    subst (λ (r : Read Record). StatesAlike hides (startOfBoot b) (startOf (booted (c .given) (c .lent) r))) (sym record-same)
+    (outcome-alike hides (b .given) (c .given) (b .lent) (c .lent) (same .lengths) (bootRecord (b .base) (b .frames) (b .blockOrder) (b .text) (b .lent))
+    (boot-fine (b .base) (b .frames) (b .blockOrder) (b .text) (b .lent)) e)
 
 -- the invariant holds after an accepted boot and after every admitted list
 pub invariant :
     (b : Boot) (items : List Item) → isRefused (outcomeOfBoot b) ≡ false → admitted (startOfBoot b) items ≡ true → SoundState (after (startOfBoot b) items)
 invariant b items accepted ok =
-    list-sound items (startOfBoot b) (boot-sound (b .given) (b .base) (b .frames) (b .order) (b .text) (b .lent) accepted) ok
+    list-sound items (startOfBoot b) (boot-sound (b .given) (b .base) (b .frames) (b .blockOrder) (b .text) (b .lent) accepted) ok
 
 pub theorem : Theorem
 theorem b items accepted ok =
-    let start = boot-sound (b .given) (b .base) (b .frames) (b .order) (b .text) (b .lent) accepted in
+    let start = boot-sound (b .given) (b .base) (b .frames) (b .blockOrder) (b .text) (b .lent) accepted in
     let sound = invariant b items accepted ok in
     record {
       reads = reads-right (after (startOfBoot b) items) sound;

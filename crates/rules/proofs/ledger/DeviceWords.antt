@@ -12,14 +12,15 @@ use Rattle.frames.specs.declared.Frame.{Frame}
 use Rattle.frames.specs.Units.{place}
 use Rattle.frames.specs.Marks.{isGranted}
 use Rattle.frames.specs.Tables.{Tables, markAt, wordAt, setPage}
-use Rattle.rules.specs.Record.{Machine, placeOf, endFrame}
+use Rattle.rules.specs.declared.Call.the-variants as Call
+use Rattle.rules.specs.declared.Record.{Record}
+use Rattle.rules.specs.Record.{placeOf, endFrame}
 use Rattle.rules.specs.PageCalls.{pageAt}
 use Rattle.rules.specs.DeviceCalls.{outsideMemory}
 use Rattle.rules.specs.DeviceCalls as Device
-use Rattle.rules.specs.Calls.{deviceStore, deviceRead}
 use Rattle.rules.proofs.Shapes.{Shape, shape-known}
 use Rattle.rules.specs.ledger.Ledger.{Ledger, update, withGrants}
-use Rattle.rules.specs.ledger.Invariant.{PlaceSound, Sound}
+use Rattle.rules.specs.steps.Invariant.{PlaceSound, Sound}
 use Rattle.rules.proofs.Checks.{checked-cases}
 use Rattle.rules.proofs.ledger.Marks.{isPage, free-granted, granted-page}
 use Rattle.rules.proofs.ledger.Tables.{OneChange, set-one}
@@ -29,17 +30,17 @@ use Rattle.rules.proofs.ledger.BitsSound.{bits-kept}
 use Rattle.rules.proofs.ledger.Grants.{GrantsKept, granted-same, grant-kept, total-kept}
 use Rattle.rules.proofs.ledger.Kept.{Kept, kept-refused, pin-stays, done-kept}
 
-pub memory-low : (m : Machine) (f : Frame) → outsideMemory m f ≡ false → m .base .0 ≤ f .0
-memory-low m f e = ltb-false (f .0) (m .base .0) (or-left (ltb (f .0) (m .base .0)) (leb (endFrame m) (f .0)) e)
+pub memory-low : (m : Record) (f : Frame) → outsideMemory (m .memory) f ≡ false → m .memory .base .0 ≤ f .0
+memory-low m f e = ltb-false (f .0) (m .memory .base .0) (or-left (ltb (f .0) (m .memory .base .0)) (leb (endFrame m) (f .0)) e)
 
-pub memory-high : (m : Machine) (f : Frame) → outsideMemory m f ≡ false → f .0 < endFrame m
-memory-high m f e = leb-false (endFrame m) (f .0) (or-right (ltb (f .0) (m .base .0)) (leb (endFrame m) (f .0)) e)
+pub memory-high : (m : Record) (f : Frame) → outsideMemory (m .memory) f ≡ false → f .0 < endFrame m
+memory-high m f e = leb-false (endFrame m) (f .0) (or-right (ltb (f .0) (m .memory .base .0)) (leb (endFrame m) (f .0)) e)
 
-module _ (m : Machine) (t : Tables) (l : Ledger) (s : Sound m t l) (f : Frame) where
+module _ (m : Record) (t : Tables) (l : Ledger) (s : Sound m t l) (f : Frame) where
   abbrev at : ℕ
   at = placeOf m f .0
 
-  module _ (word : ℕ) (low : m .base .0 ≤ f .0) (high : f .0 < endFrame m) (granted : isGranted (markAt t (place at)) ≡ true) where
+  module _ (word : ℕ) (low : m .memory .base .0 ≤ f .0) (high : f .0 < endFrame m) (granted : isGranted (markAt t (place at)) ≡ true) where
     abbrev t′ : Tables
     t′ = setPage t (place at) (markAt t (place at)) word
 
@@ -69,7 +70,7 @@ module _ (m : Machine) (t : Tables) (l : Ledger) (s : Sound m t l) (f : Frame) w
     kept : GrantsKept m t t′
     kept = record { forth = λ q h e. same-mark q; back = λ q h e. same-mark q }
 
-    fits : (q : ℕ) → q < m .frames → PlaceSound m l′ q (markAt t′ (place q)) (wordAt t′ (place q))
+    fits : (q : ℕ) → q < m .memory .frames → PlaceSound m l′ q (markAt t′ (place q)) (wordAt t′ (place q))
     fits q h =
         let old = s .places q h in
         rw (same-mark q)
@@ -80,7 +81,7 @@ module _ (m : Machine) (t : Tables) (l : Ledger) (s : Sound m t l) (f : Frame) w
           empty = λ k. clash (isGranted (markAt t (place q))) (ap (λ (x : ℕ). isGranted (markAt t (place x))) e ∙ granted) (free-granted (markAt t (place q)) k);
           ordinary = old .ordinary;
           granted = λ k.
-              let here : m .base .0 + q ≡ f .0 = omega arith in
+              let here : m .memory .base .0 + q ≡ f .0 = omega arith in
               ap (λ (x : ℕ). wordAt t′ (place x)) e ∙ one .word-here ∙ sym (update-here (l .deviceWord) (f .0) word) ∙ ap (update (l .deviceWord) (f .0) word) (sym here);
         })
         (λ n.
@@ -89,7 +90,7 @@ module _ (m : Machine) (t : Tables) (l : Ledger) (s : Sound m t l) (f : Frame) w
           empty = λ k. one .words q n ∙ old .empty k;
           ordinary = old .ordinary;
           granted = λ k.
-              one .words q n ∙ old .granted k ∙ sym (update-other (l .deviceWord) (f .0) word (m .base .0 + q) (λ e. n (omega arith)));
+              one .words q n ∙ old .granted k ∙ sym (update-other (l .deviceWord) (f .0) word (m .memory .base .0 + q) (λ e. n (omega arith)));
         }))
 
     stored : Sound m t′ l′
@@ -108,20 +109,20 @@ module _ (m : Machine) (t : Tables) (l : Ledger) (s : Sound m t l) (f : Frame) w
     stays : (x : ℕ) → l .pinned x ≡ true → pageAt m t′ x ≡ pageAt m t x
     stays x b = pin-stays m m t t′ l l′ x (s .names x) (stored .names x) refl b b (λ p h e k. same-mark p)
 
-  pub device-store-kept : (word : ℕ) → Kept (deviceStore f word) m t l (Device.deviceStore m f word t)
+  pub device-store-kept : (word : ℕ) → Kept (Call.DeviceStore f word) m t l (Device.deviceStore m f word t)
   unfolding Device.deviceStore
   device-store-kept word =
-      checked-cases (Kept (deviceStore f word) m t l) m t _ _ refl (kept-refused (deviceStore f word) m t l s)
+      checked-cases (Kept (Call.DeviceStore f word) m t l) m t _ _ refl (kept-refused (Call.DeviceStore f word) m t l s)
       (λ passed.
       let low = memory-low m f (passed .1 .0) in
       let high = memory-high m f (passed .1 .0) in
       let granted = not-false (isGranted (markAt t (placeOf m f))) (passed .1 .1 .0) in
-      done-kept (deviceStore f word) m t (setPage t (placeOf m f) (markAt t (placeOf m f)) word) l
+      done-kept (Call.DeviceStore f word) m t (setPage t (placeOf m f) (markAt t (placeOf m f)) word) l
       (withGrants l (l .grants) (update (l .deviceWord) (f .0) word) (l .granted) (l .released)) 0 0 refl (stored word low high granted)
       (λ x a b. (b, stays word low high granted x b)))
 
-  pub device-read-kept : Kept (deviceRead f) m t l (Device.deviceRead m f t)
+  pub device-read-kept : Kept (Call.DeviceRead f) m t l (Device.deviceRead m f t)
   unfolding Device.deviceRead
   device-read-kept =
-      checked-cases (Kept (deviceRead f) m t l) m t _ _ refl (kept-refused (deviceRead f) m t l s)
-      (λ passed. done-kept (deviceRead f) m t t l l (wordAt t (placeOf m f)) 0 refl s (λ x a b. (b, refl)))
+      checked-cases (Kept (Call.DeviceRead f) m t l) m t _ _ refl (kept-refused (Call.DeviceRead f) m t l s)
+      (λ passed. done-kept (Call.DeviceRead f) m t t l l (wordAt t (placeOf m f)) 0 refl s (λ x a b. (b, refl)))

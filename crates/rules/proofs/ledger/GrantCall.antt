@@ -19,16 +19,17 @@ use Rattle.frames.specs.Units.{frame, place, bit}
 use Rattle.frames.specs.Marks.{markOf, hasKind, canLeave, head}
 use Rattle.frames.specs.Areas.{isMultiple, endOf, perBit, bitCount, frameOfBit, bitsFor}
 use Rattle.frames.specs.Tables.{Tables, markAt, setPage, withBitmap}
-use Rattle.rules.specs.Record.{Machine, areaAt}
-use Rattle.rules.specs.Limits.{mostAlignment}
+use Rattle.rules.specs.declared.Call.the-variants as Call
+use Rattle.rules.specs.declared.Record.{Record}
+use Rattle.rules.specs.Record.{areaAt}
+use Rattle.rules.specs.Limits.{mostAlignOrder}
 use Rattle.rules.specs.Shape.{shapeRight}
 use Rattle.rules.specs.PageCalls.{pageAt}
-use Rattle.rules.specs.DeviceCalls.{noArea, bitmapOf, placeOfBit, isCandidate, isGrantable, chosen, movers, targets, moveOut, markRun, takeRun}
+use Rattle.rules.specs.DeviceCalls.{isUnknown, bitmapOf, placeOfBit, isCandidate, isGrantable, chosen, movers, targets, moveOut, markRun, takeRun}
 use Rattle.rules.specs.DeviceCalls as Device
-use Rattle.rules.specs.Calls.{grant}
 use Rattle.rules.proofs.Shapes.{shape-known}
 use Rattle.rules.specs.ledger.Ledger.{Grant, Ledger, grantOf, takes, withGrants}
-use Rattle.rules.specs.ledger.Invariant.{GrantInArea, BitsSound, Sound}
+use Rattle.rules.specs.steps.Invariant.{GrantInArea, BitsSound, Sound}
 use Rattle.rules.proofs.Checks.{checked-cases}
 use Rattle.rules.proofs.ledger.Marks.{isPage, page-of}
 use Rattle.frames.proofs.FillFacts.{length-fill}
@@ -42,35 +43,35 @@ use Rattle.rules.proofs.ledger.Kept.{Kept, kept-refused, pin-stays, don
 use Rattle.rules.proofs.ledger.GrantedRun.{run-inside, RunMarked, run-marked, now-granted, grant-sound, run-pins}
 
 -- what an accepted grant has checked of its run
-pub record Grantable (m : Machine) (t : Tables) (i count j : ℕ) : Type 0 where
-  pub declared : i < m .declared
+pub record Grantable (m : Record) (t : Tables) (i count j : ℕ) : Type 0 where
+  pub declared : i < m .memory .declared
   pub some : 1 ≤ count
   pub fits : j + bitsFor (areaAt m i) count ≤ bitCount (areaAt m i)
   pub leave : (q : ℕ) → placeOfBit m i (bit j) .0 ≤ q → q < placeOfBit m i (bit j) .0 + count → canLeave (markAt t (place q)) ≡ true
 
-module _ (m : Machine) (t : Tables) (l : Ledger) (s : Sound m t l) (i count : ℕ) where
+module _ (m : Record) (t : Tables) (l : Ledger) (s : Sound m t l) (i count : ℕ) where
   grantable :
-      (order : ℕ) →
-      (noArea m i || eqb count 0 || ltb mostAlignment order) ≡ false →
-      leb (bitCount (areaAt m i)) (chosen m t i count order .0) ≡ false → Grantable m t i count (chosen m t i count order .0)
+      (alignOrder : ℕ) →
+      (isUnknown (m .memory) i || eqb count 0 || ltb mostAlignOrder alignOrder) ≡ false →
+      leb (bitCount (areaAt m i)) (chosen m t i count alignOrder .0) ≡ false → Grantable m t i count (chosen m t i count alignOrder .0)
   unfolding chosen isGrantable isCandidate
-  grantable order e₂ e₇ =
-      let j = chosen m t i count order .0 in
-      let known = or-left (noArea m i || eqb count 0) (ltb mostAlignment order) e₂ in
-      let pass : isGrantable m t i count order (bit j) ≡ true =
-      found-passes (λ j. isGrantable m t i count order (bit j)) (bitCount (areaAt m i)) (leb-false (bitCount (areaAt m i)) j e₇)
+  grantable alignOrder e₂ e₇ =
+      let j = chosen m t i count alignOrder .0 in
+      let known = or-left (isUnknown (m .memory) i || eqb count 0) (ltb mostAlignOrder alignOrder) e₂ in
+      let pass : isGrantable m t i count alignOrder (bit j) ≡ true =
+      found-passes (λ j. isGrantable m t i count alignOrder (bit j)) (bitCount (areaAt m i)) (leb-false (bitCount (areaAt m i)) j e₇)
       in
       let every-leave = every (λ q. canLeave (markAt t (place q))) (placeOfBit m i (bit j) .0) count in
-      let candidate = and-left (isCandidate m t i count order (bit j)) every-leave pass in
-      let multiple = isMultiple (frameOfBit (areaAt m i) (bit j) .0) (2 ^ order) in
+      let candidate = and-left (isCandidate m t i count alignOrder (bit j)) every-leave pass in
+      let multiple = isMultiple (frameOfBit (areaAt m i) (bit j) .0) (2 ^ alignOrder) in
       let lies = leb (j + bitsFor (areaAt m i) count) (bitCount (areaAt m i)) in
       let clear = every (isClear (t .bitmap) (bitmapOf m i)) j (bitsFor (areaAt m i) count) in
-      let nonzero = eqb-false count 0 (or-right (noArea m i) (eqb count 0) known) in
+      let nonzero = eqb-false count 0 (or-right (isUnknown (m .memory) i) (eqb count 0) known) in
       record {
-        declared = leb-false (m .declared) i (or-left (noArea m i) (eqb count 0) known);
+        declared = leb-false (m .memory .declared) i (or-left (isUnknown (m .memory) i) (eqb count 0) known);
         some = omega arith;
         fits = leb-true (j + bitsFor (areaAt m i) count) (bitCount (areaAt m i)) (and-right multiple lies (and-left (multiple && lies) clear candidate));
-        leave = λ q a b. every-all (λ q. canLeave (markAt t (place q))) (placeOfBit m i (bit j) .0) count (and-right (isCandidate m t i count order (bit j)) every-leave pass) q a b;
+        leave = λ q a b. every-all (λ q. canLeave (markAt t (place q))) (placeOfBit m i (bit j) .0) count (and-right (isCandidate m t i count alignOrder (bit j)) every-leave pass) q a b;
       }
 
   module _ (j : ℕ) (ok : Grantable m t i count j) (enough : movers t (placeOfBit m i (bit j)) count ≤ targets m t) where
@@ -86,7 +87,7 @@ module _ (m : Machine) (t : Tables) (l : Ledger) (s : Sound m t l) (i count : �
     ends : a .base .0 + j * perBit a + count ≤ endOf a
     ends = run-inside a j count (ok .fits)
 
-    in-memory : r + count ≤ m .frames
+    in-memory : r + count ≤ m .memory .frames
     in-memory = let low = area .low in let high = area .high in let e = ends in let some = ok .some in omega arith
 
     can-empty : CanEmpty m t r count
@@ -127,7 +128,7 @@ module _ (m : Machine) (t : Tables) (l : Ledger) (s : Sound m t l) (i count : �
     abbrev answered : ℕ
     answered = frameOfBit a (bit j) .0
 
-    first-frame : m .base .0 + r ≡ answered
+    first-frame : m .memory .base .0 + r ≡ answered
     first-frame = let low = area .low in omega arith
 
     abbrev new : Grant
@@ -174,13 +175,13 @@ module _ (m : Machine) (t : Tables) (l : Ledger) (s : Sound m t l) (i count : �
         (ap isPage unmoved ∙ page-of x (markAt t (place p)) e) ∙
         unmoved)
 
-  pub grant-kept : (order : ℕ) → Kept (grant i count order) m t l (Device.grant m i count order t)
+  pub grant-kept : (alignOrder : ℕ) → Kept (Call.Grant i count alignOrder) m t l (Device.grant m i count alignOrder t)
   unfolding Device.grant takeRun
-  grant-kept order =
-      checked-cases (Kept (grant i count order) m t l) m t _ _ refl (kept-refused (grant i count order) m t l s)
+  grant-kept alignOrder =
+      checked-cases (Kept (Call.Grant i count alignOrder) m t l) m t _ _ refl (kept-refused (Call.Grant i count alignOrder) m t l s)
       (λ passed.
-      let j : ℕ = chosen m t i count order .0 in
-      let ok : Grantable m t i count j = grantable order (passed .1 .0) (passed .1 .1 .0) in
+      let j : ℕ = chosen m t i count alignOrder .0 in
+      let ok : Grantable m t i count j = grantable alignOrder (passed .1 .0) (passed .1 .1 .0) in
       let enough : movers t (placeOfBit m i (bit j)) count ≤ targets m t = ltb-false (targets m t) (movers t (placeOfBit m i (bit j)) count) (passed .1 .1 .1 .0) in
-      done-kept (grant i count order) m t (t₂ j ok enough) l (after j ok enough) (answered j ok enough) (movers t (placeOfBit m i (bit j)) count) refl
+      done-kept (Call.Grant i count alignOrder) m t (t₂ j ok enough) l (after j ok enough) (answered j ok enough) (movers t (placeOfBit m i (bit j)) count) refl
       (granted j ok enough) (λ x a b. (b, granted-stays j ok enough x b)))

@@ -19,11 +19,12 @@ use Rattle.frames.specs.Units.{frame, place}
 use Rattle.frames.specs.Marks.{markOf, hasKind, isGranted, head, later}
 use Rattle.frames.specs.Areas.{endOf, perBit, bitCount, bitsFor}
 use Rattle.frames.specs.Tables.{Tables, markAt, wordAt, setPage, withBitmap}
-use Rattle.rules.specs.Record.{Machine, frameAt}
+use Rattle.rules.specs.declared.Record.{Record}
+use Rattle.rules.specs.Record.{frameAt}
 use Rattle.rules.specs.Shape.{shapeRight}
 use Rattle.rules.specs.DeviceCalls.{markRun}
 use Rattle.rules.specs.ledger.Ledger.{Grant, Ledger, grantOf, takes, sameGrant, grantsAt, isAmong, withGrants}
-use Rattle.rules.specs.ledger.Invariant.{PlaceSound, GrantInArea, GrantSound, BitsSound, Sound}
+use Rattle.rules.specs.steps.Invariant.{PlaceSound, GrantInArea, GrantSound, BitsSound, Sound}
 use Rattle.rules.proofs.ledger.Marks.{isPage, mark-kind, free-page, free-granted, granted-page}
 use Rattle.frames.proofs.FillFacts.{getD-fill-in, getD-fill-below, getD-fill-above}
 use Rattle.rules.proofs.Divisions.{up-low}
@@ -35,7 +36,7 @@ use Rattle.rules.proofs.ledger.Grants.{one, takes-low, takes-high, low-
 pub run-inside : (a : Area) (j count : ℕ) → j + bitsFor a count ≤ bitCount a → a .base .0 + j * perBit a + count ≤ endOf a
 run-inside a j count h =
     let d = perBit a in
-    let positive : 0 < d = pow-pos (a .order) in
+    let positive : 0 < d = pow-pos (a .«order_per_bit») in
     let hold = up-low count d positive in
     let wide : (j + bitsFor a count) * d ≤ bitCount a * d = mul-le-mul-right d h in
     let parts = add-mul j (bitsFor a count) d in
@@ -86,9 +87,9 @@ run-marked t bitmap r count some a b =
 
 -- ---- a free run becomes a grant
 
-module _ (m : Machine) (t t′ : Tables) (l : Ledger) (s : Sound m t l) (r count : ℕ) (some : 1 ≤ count) (inside : r + count ≤ m .frames) (free-run : (q : ℕ) → r ≤ q → q < r + count → hasKind 0 (markAt t (place q)) ≡ true) (marked : RunMarked t t′ r count) where
+module _ (m : Record) (t t′ : Tables) (l : Ledger) (s : Sound m t l) (r count : ℕ) (some : 1 ≤ count) (inside : r + count ≤ m .memory .frames) (free-run : (q : ℕ) → r ≤ q → q < r + count → hasKind 0 (markAt t (place q)) ≡ true) (marked : RunMarked t t′ r count) where
   abbrev g : Grant
-  g = grantOf (frame (m .base .0 + r)) count
+  g = grantOf (frame (m .memory .base .0 + r)) count
 
   abbrev l′ : Ledger
   l′ = withGrants l (g ∷ l .grants) (λ f. if takes g (frame f) then 0 else l .deviceWord f) (l .granted + count) (l .released)
@@ -134,7 +135,7 @@ module _ (m : Machine) (t t′ : Tables) (l : Ledger) (s : Sound m t l) (r count
       below-or-not r q (λ c. ap (hasKind 3) (marked .rest q c b))
       (λ c. let here : q ≡ r = omega arith in rw here (ap (hasKind 3) (marked .first) ∙ rw (mark-kind count 4 (omega arith))))
 
-  granted-place : (q : ℕ) → q < m .frames → PlaceSound m l′ q (markAt t′ (place q)) (wordAt t′ (place q))
+  granted-place : (q : ℕ) → q < m .memory .frames → PlaceSound m l′ q (markAt t′ (place q)) (wordAt t′ (place q))
   granted-place q h =
       in-run-or-not q r count
       (λ a b.
@@ -142,7 +143,7 @@ module _ (m : Machine) (t t′ : Tables) (l : Ledger) (s : Sound m t l) (r count
         used = small-kind q a b;
         empty = λ _. marked .words q a b;
         ordinary = λ e. clash (hasKind 3 (markAt t′ (place q))) e (unfixed q a b);
-        granted = λ _. marked .words q a b ∙ ap (λ (b : Bool). if b then 0 else l .deviceWord (m .base .0 + q)) (sym (taken q a b));
+        granted = λ _. marked .words q a b ∙ ap (λ (b : Bool). if b then 0 else l .deviceWord (m .memory .base .0 + q)) (sym (taken q a b));
       })
       (λ o.
       let old = s .places q h in
@@ -151,7 +152,7 @@ module _ (m : Machine) (t t′ : Tables) (l : Ledger) (s : Sound m t l) (r count
         used = old .used;
         empty = old .empty;
         ordinary = old .ordinary;
-        granted = λ e. old .granted e ∙ ap (λ (b : Bool). if b then 0 else l .deviceWord (m .base .0 + q)) (sym (not-taken q o));
+        granted = λ e. old .granted e ∙ ap (λ (b : Bool). if b then 0 else l .deviceWord (m .memory .base .0 + q)) (sym (not-taken q o));
       }))
 
   old-grant : (h : Grant) → GrantSound m t h → GrantSound m t′ h
@@ -175,7 +176,7 @@ module _ (m : Machine) (t t′ : Tables) (l : Ledger) (s : Sound m t l) (r count
       by-cases (sameGrant g h) (λ k. subst (λ (x : Grant). GrantSound m t′ x) (same-grant g h k) (new-grant area))
       (λ k. old-grant h (s .grants h (sym (ap (λ (b : Bool). b || isAmong (l .grants) h) k) ∙ sym (among-cons g (l .grants) h) ∙ e)))
 
-  all-covered : (q : ℕ) → q < m .frames → grantsAt (g ∷ l .grants) (frameAt m (place q)) ≡ (if isGranted (markAt t′ (place q)) then 1 else 0)
+  all-covered : (q : ℕ) → q < m .memory .frames → grantsAt (g ∷ l .grants) (frameAt m (place q)) ≡ (if isGranted (markAt t′ (place q)) then 1 else 0)
   all-covered q h =
       let split = at-cons g (l .grants) (frameAt m (place q)) in
       in-run-or-not q r count
@@ -189,10 +190,10 @@ module _ (m : Machine) (t t′ : Tables) (l : Ledger) (s : Sound m t l) (r count
       let same : grantsAt (g ∷ l .grants) (frameAt m (place q)) ≡ grantsAt (l .grants) (frameAt m (place q)) = omega arith in
       same ∙ s .covered q h ∙ ap (λ (x : ℕ). if isGranted x then 1 else 0) (sym (marked .outside .marks q o)))
 
-  more-granted : howMany (λ p. isGranted (markAt t′ (place p))) 0 (m .frames) + l .released ≡ l .granted + count
+  more-granted : howMany (λ p. isGranted (markAt t′ (place p))) 0 (m .memory .frames) + l .released ≡ l .granted + count
   more-granted =
       let more =
-      many-run (λ p. isGranted (markAt t′ (place p))) (λ p. isGranted (markAt t (place p))) (m .frames) r count inside now-granted was-ungranted
+      many-run (λ p. isGranted (markAt t′ (place p))) (λ p. isGranted (markAt t (place p))) (m .memory .frames) r count inside now-granted was-ungranted
       (λ k h o. ap isGranted (marked .outside .marks k o))
       in
       let before = s .total in
@@ -211,5 +212,5 @@ module _ (m : Machine) (t t′ : Tables) (l : Ledger) (s : Sound m t l) (r count
         bits = bits;
       }
 
-  pub run-pins : (p : ℕ) → p < m .frames → hasKind 2 (markAt t (place p)) ≡ true → isPage (markAt t (place p)) ≡ true → markAt t′ (place p) ≡ markAt t (place p)
+  pub run-pins : (p : ℕ) → p < m .memory .frames → hasKind 2 (markAt t (place p)) ≡ true → isPage (markAt t (place p)) ≡ true → markAt t′ (place p) ≡ markAt t (place p)
   run-pins p h e k = pages .forth p h k

@@ -19,9 +19,10 @@ use Rattle.frames.specs.declared.Frame.{Frame}
 use Rattle.frames.specs.Units.{frame, place}
 use Rattle.frames.specs.Marks.{markOf, isGranted, head}
 use Rattle.frames.specs.Tables.{Tables, markAt}
-use Rattle.rules.specs.Record.{Machine, placeOf}
+use Rattle.rules.specs.declared.Record.{Record}
+use Rattle.rules.specs.Record.{placeOf}
 use Rattle.rules.specs.ledger.Ledger.{Grant, takes, sameGrant, grantsAt, isAmong, without}
-use Rattle.rules.specs.ledger.Invariant.{GrantSound}
+use Rattle.rules.specs.steps.Invariant.{GrantSound}
 use Rattle.rules.proofs.ledger.Marks.{mark-kind}
 
 -- ---- lists of grants
@@ -160,15 +161,15 @@ many-run p q n r c h yes-all no-all others =
 
 -- ---- no granted mark changes
 
-pub record GrantsKept (m : Machine) (t t′ : Tables) : Type 0 where
-  pub forth : (q : ℕ) → q < m .frames → isGranted (markAt t (place q)) ≡ true → markAt t′ (place q) ≡ markAt t (place q)
-  pub back : (q : ℕ) → q < m .frames → isGranted (markAt t′ (place q)) ≡ true → markAt t′ (place q) ≡ markAt t (place q)
+pub record GrantsKept (m : Record) (t t′ : Tables) : Type 0 where
+  pub forth : (q : ℕ) → q < m .memory .frames → isGranted (markAt t (place q)) ≡ true → markAt t′ (place q) ≡ markAt t (place q)
+  pub back : (q : ℕ) → q < m .memory .frames → isGranted (markAt t′ (place q)) ≡ true → markAt t′ (place q) ≡ markAt t (place q)
 
 -- a sound grant's marks are granted marks inside memory
 pub head-granted : (count : ℕ) → isGranted (markOf count head) ≡ true
 head-granted count = rw (mark-kind count 4 (omega arith))
 
-pub granted-mark : (m : Machine) (t : Tables) (g : Grant) → GrantSound m t g → (p : ℕ) → placeOf m (g .first) .0 ≤ p → p < placeOf m (g .first) .0 + g .count → isGranted (markAt t (place p)) ≡ true
+pub granted-mark : (m : Record) (t : Tables) (g : Grant) → GrantSound m t g → (p : ℕ) → placeOf m (g .first) .0 ≤ p → p < placeOf m (g .first) .0 + g .count → isGranted (markAt t (place p)) ≡ true
 granted-mark m t g s p a b =
     by-cases (ltb (placeOf m (g .first) .0) p) (λ e. ap isGranted (s .rest p (ltb-true (placeOf m (g .first) .0) p e) b))
     (λ e. ap isGranted (ap (λ (x : ℕ). markAt t (place x)) (here (placeOf m (g .first) .0) p a e) ∙ s .first) ∙ head-granted (g .count))
@@ -178,7 +179,7 @@ granted-mark m t g s p a b =
 
 -- the grant's own marks do not change
 pub grant-moved :
-    (m : Machine) (t t′ : Tables) (g : Grant) →
+    (m : Record) (t t′ : Tables) (g : Grant) →
     GrantSound m t g →
     ((p : ℕ) → placeOf m (g .first) .0 ≤ p → p < placeOf m (g .first) .0 + g .count → markAt t′ (place p) ≡ markAt t (place p)) →
     GrantSound m t′ g
@@ -193,8 +194,8 @@ grant-moved m t t′ g s same =
       inArea = s .inArea;
     }
 
-module _ (m : Machine) (t t′ : Tables) (k : GrantsKept m t t′) where
-  pub granted-same : (q : ℕ) → q < m .frames → isGranted (markAt t′ (place q)) ≡ isGranted (markAt t (place q))
+module _ (m : Record) (t t′ : Tables) (k : GrantsKept m t t′) where
+  pub granted-same : (q : ℕ) → q < m .memory .frames → isGranted (markAt t′ (place q)) ≡ isGranted (markAt t (place q))
   granted-same q h =
       by-cases (isGranted (markAt t (place q))) (λ e. ap isGranted (k .forth q h e))
       (λ e. by-cases (isGranted (markAt t′ (place q))) (λ f. ap isGranted (k .back q h f)) (λ f. f ∙ sym e))
@@ -206,6 +207,6 @@ module _ (m : Machine) (t t′ : Tables) (k : GrantsKept m t t′) where
       let high = s .high in
       grant-moved m t t′ g s (λ p a b. k .forth p (omega arith) (granted-mark m t g s p a b))
 
-  pub total-kept : howMany (λ p. isGranted (markAt t′ (place p))) 0 (m .frames) ≡ howMany (λ p. isGranted (markAt t (place p))) 0 (m .frames)
+  pub total-kept : howMany (λ p. isGranted (markAt t′ (place p))) 0 (m .memory .frames) ≡ howMany (λ p. isGranted (markAt t (place p))) 0 (m .memory .frames)
   total-kept =
-      many-cong (λ p. isGranted (markAt t′ (place p))) (λ p. isGranted (markAt t (place p))) 0 (m .frames) (λ q a b. granted-same q (omega arith))
+      many-cong (λ p. isGranted (markAt t′ (place p))) (λ p. isGranted (markAt t (place p))) 0 (m .memory .frames) (λ q a b. granted-same q (omega arith))

@@ -8,12 +8,15 @@ use Rattle.search.specs.Choice.{if_then_else_}
 use Rattle.search.proofs.Bools.{by-cases, clash, and-left, and-right}
 use Rattle.frames.specs.declared.Place.{Place}
 use Rattle.frames.specs.Tables.{Tables}
-use Rattle.rules.specs.Record.{Machine}
+use Rattle.rules.specs.declared.Call.{Call}
+use Rattle.rules.specs.declared.Call.the-variants as Call
+use Rattle.rules.specs.declared.Record.{Record}
 use Rattle.rules.specs.PageCalls.{pageAt}
-use Rattle.rules.specs.Calls.{Call, putMovable, putFixed, dropPage, pinPage, unpinPage, storePage, readPage, grant, release, deviceStore, deviceRead, declare, boot, perform}
+use Rattle.rules.specs.Calls.{perform}
 use Rattle.rules.specs.ledger.Ledger.{Ledger}
-use Rattle.rules.specs.ledger.Runs.{Item, onOwn, State, isRefused, outcomeIn, next, after, isBoot, mayPass, admitted, frameOfPage, isPinOf, lastPinFrame}
-use Rattle.rules.specs.ledger.Invariant.{Sound}
+use Rattle.rules.specs.ledger.Roles.{roleOf}
+use Rattle.rules.specs.ledger.Lists.{own, Item, itemWith, State, isRefused, outcomeIn, next, after, mayPass, admitted, frameOfPage, lastPinFrame}
+use Rattle.rules.specs.steps.Invariant.{Sound}
 use Rattle.rules.proofs.ledger.Kept.{Kept}
 use Rattle.rules.proofs.ledger.PutCalls.{put-kept}
 use Rattle.rules.proofs.ledger.PageCalls.{drop-kept, pin-kept, unpin-kept, store-kept, read-kept}
@@ -25,25 +28,25 @@ use Rattle.rules.proofs.ledger.Items.{refused-item, item-cases}
 
 -- ---- one call
 
-module _ (m : Machine) (t : Tables) (l : Ledger) (s : Sound m t l) where
-  pub perform-kept : (c : Call) → isBoot c ≡ false → Kept c m t l (perform c m t)
-  perform-kept (putMovable name) e =
-      put-kept m t l s name (putMovable name) 1 (record { small = omega arith; page = refl; pin = refl; full = refl; ungranted = refl })
+module _ (m : Record) (t : Tables) (l : Ledger) (s : Sound m t l) where
+  pub perform-kept : (c : Call) (text : List ℕ) → roleOf c .isBoot ≡ false → Kept c m t l (perform c text m t)
+  perform-kept (Call.PutMovable name) text e =
+      put-kept m t l s name (Call.PutMovable name) 1 (record { small = omega arith; page = refl; pin = refl; full = refl; ungranted = refl })
       (λ k. clash false k refl) (λ _. refl)
-  perform-kept (putFixed name) e =
-      put-kept m t l s name (putFixed name) 3 (record { small = omega arith; page = refl; pin = refl; full = refl; ungranted = refl }) (λ _. refl)
+  perform-kept (Call.PutFixed name) text e =
+      put-kept m t l s name (Call.PutFixed name) 3 (record { small = omega arith; page = refl; pin = refl; full = refl; ungranted = refl }) (λ _. refl)
       (λ _. refl)
-  perform-kept (dropPage name) e = drop-kept m t l s name
-  perform-kept (pinPage name) e = pin-kept m t l s name
-  perform-kept (unpinPage name) e = unpin-kept m t l s name
-  perform-kept (storePage name word) e = store-kept m t l s name word
-  perform-kept (readPage name) e = read-kept m t l s name
-  perform-kept (grant area count order) e = grant-kept m t l s area count order
-  perform-kept (release area f count) e = release-kept m t l s area f count
-  perform-kept (deviceStore f word) e = device-store-kept m t l s f word
-  perform-kept (deviceRead f) e = device-read-kept m t l s f
-  perform-kept (declare request) e = declare-kept m request t l s
-  perform-kept (boot base frames order text) e = clash true refl e
+  perform-kept (Call.Drop name) text e = drop-kept m t l s name
+  perform-kept (Call.Pin name) text e = pin-kept m t l s name
+  perform-kept (Call.Unpin name) text e = unpin-kept m t l s name
+  perform-kept (Call.Store name word) text e = store-kept m t l s name word
+  perform-kept (Call.Read name) text e = read-kept m t l s name
+  perform-kept (Call.Grant area count alignOrder) text e = grant-kept m t l s area count alignOrder
+  perform-kept (Call.Release area f count) text e = release-kept m t l s area f count
+  perform-kept (Call.DeviceStore f word) text e = device-store-kept m t l s f word
+  perform-kept (Call.DeviceRead f) text e = device-read-kept m t l s f
+  perform-kept (Call.Declare request) text e = declare-kept m request t l s
+  perform-kept (Call.Boot base frames blockOrder) text e = clash true refl e
 
 -- ---- one item
 
@@ -52,7 +55,7 @@ SoundState s = Sound (s .machine) (s .own) (s .ledger)
 
 -- the item is an accepted pin of that name
 abbrev pub pinsNow : State → Item → ℕ → Bool
-pinsNow s x name = isPinOf name (x .call) && not (isRefused (outcomeIn s x))
+pinsNow s x name = roleOf (x .call) .pins name && not (isRefused (outcomeIn s x))
 
 pub record ItemKept (s : State) (x : Item) : Type 0 where
   pub sound : SoundState (next s x)
@@ -67,21 +70,21 @@ same-kept s x sound same =
       stays = λ name a b. ap (λ (k : State). frameOfPage k name) same;
     }
 
-call-kept : (s : State) (c : Call) → SoundState s → isBoot c ≡ false → ItemKept s (onOwn c)
+call-kept : (s : State) (c : Call) (text : List ℕ) → SoundState s → roleOf c .isBoot ≡ false → ItemKept s (itemWith c text own own own)
 unfolding next
-call-kept s c sound e =
-    let kept = perform-kept (s .machine) (s .own) (s .ledger) sound c e in
+call-kept s c text sound e =
+    let kept = perform-kept (s .machine) (s .own) (s .ledger) sound c text e in
     record {
       sound = kept .sound;
       wasPinned = λ name a b. kept .pins name a b .wasPinned;
       stays = λ name a b.
           let k = kept .pins name a b in
-          ap (λ (p : Place). perform c (s .machine) (s .own) .machine .base .0 + p .0) (k .place) ∙
+          ap (λ (p : Place). perform c text (s .machine) (s .own) .machine .memory .base .0 + p .0) (k .place) ∙
           ap (λ (x : ℕ). x + pageAt (s .machine) (s .own) name .0) (k .base);
     }
 
 pub item-kept : (s : State) (x : Item) → SoundState s → (isRefused (outcomeIn s x) || mayPass x) ≡ true → ItemKept s x
-item-kept s x sound e = item-cases (ItemKept s) s x e (λ r. same-kept s x sound (refused-item s x r)) (call-kept s (x .call) sound)
+item-kept s x sound e = item-cases (ItemKept s) s x e (λ r. same-kept s x sound (refused-item s x r)) (call-kept s (x .call) (x .text) sound)
 
 -- ---- a list
 

@@ -12,8 +12,11 @@ use Rattle.frames.specs.Units.{frame}
 use Rattle.frames.specs.Areas.{inAreas, firstWord}
 use Rattle.frames.specs.Marks.{kindOf, markOf, pinned}
 use Rattle.frames.specs.Tables.{fill}
-use Rattle.regions.specs.Amounts.{digitOf, digitsEnd, digitsValue, unitOf, digits, number, isPowerOfTwo, amount}
-use Rattle.regions.specs.Text.{isNameByte, nameLength, isNamed, sameBytes, region, regionsFrom, regions}
+use Rattle.text.specs.Bytes.{digitOf, unitOf, isNameByte}
+use Rattle.text.specs.Names.{nameLength, sameBytes}
+use Rattle.text.specs.Numbers.{digitsEnd, digitsValue, digits, number}
+use Rattle.regions.specs.Amounts.{isPowerOfTwo, amount}
+use Rattle.regions.specs.Text.{isNamed, region, regionsFrom, regions}
 use Rattle.rules.specs.Shape.{memoryRight, lengthsRight, areaRight, areaFits, shapeRight}
 use Rattle.rules.specs.Outcomes.{checked}
 use Rattle.rules.specs.PageCalls.{pageAt, freeOrdinary, freeInArea, putAt, putPage, dropPage, changeKind, storePage, readPage}
@@ -21,7 +24,7 @@ use Rattle.rules.specs.DeviceCalls.{isCandidate, isGrantable, chosen, mo
 use Rattle.rules.specs.Declare.{alignmentFor, baseFor, sizeFor, limitFor, isVacant, fitsAt, highestFit, declare}
 use Rattle.rules.specs.Boot.{declareAll, bootRecord, boot}
 use Rattle.rules.specs.ledger.Ledger.{grantOf, grantsAt, without, update}
-use Rattle.rules.specs.ledger.Runs.{Item, State, isRefused, next, after, admitted, frameOfPage, lastPinFrame, SameList, same, otherWord, none, more, seenAnswers}
+use Rattle.rules.specs.ledger.Lists.{Item, State, isRefused, next, after, admitted, frameOfPage, lastPinFrame, SameList, same, otherWord, none, more, seenAnswers}
 use Rattle.rules.specs.ledger.Statement.{pageRead, frameRead, markOfPage, isGrantedPlace, isLiveFrame, outcomeOfBoot, startOfBoot, Demand3}
 use Rattle.rules.specs.ledger.Instance.{instanceBoot, placed, afterStores, instanceList, fiveAndSix}
 use Rattle.rules.proofs.ledger.Demand3.{theorem}
@@ -103,6 +106,8 @@ record Computed : Type 0 where
   pub five-pinned : end .ledger .pinned 5 ≡ true
   pub six-unpinned : end .ledger .pinned 6 ≡ false
   pub five-frame : lastPinFrame 5 0 start (instanceList 77) ≡ 8
+  -- page 6 was pinned at frame 9, and stands at 5 now: no call but a pin counts as one
+  pub six-frame : lastPinFrame 6 0 start (instanceList 77) ≡ 9
   pub one-grant : end .ledger .grants ≡ grantOf (frame 9) 1 ∷ []
   pub nine-live : isLiveFrame end (frame 9) ≡ true
   pub nine-word : end .ledger .deviceWord 9 ≡ 55
@@ -123,6 +128,7 @@ computed =
       five-pinned = refl;
       six-unpinned = refl;
       five-frame = refl;
+      six-frame = refl;
       one-grant = refl;
       nine-live = refl;
       nine-word = refl;
@@ -154,7 +160,7 @@ pub six-not-pinned : kindOf (markOfPage end 6) ≢ pinned
 six-not-pinned = demand3-here .pinned .unmarked 6 (computed .six-live) (computed .six-unpinned)
 
 -- (3) one frame is granted: three were, and two were released
-pub one-granted : howMany (isGrantedPlace end) 0 (end .machine .frames) ≡ 1
+pub one-granted : howMany (isGrantedPlace end) 0 (end .machine .memory .frames) ≡ 1
 one-granted =
     let total = demand3-here .grants .total in
     let granted = computed .granted in
@@ -183,5 +189,5 @@ pub runs-agree :
     seenAnswers fiveAndSix (startOfBoot (instanceBoot 9)) (instanceList 77) ≡ seenAnswers fiveAndSix (startOfBoot (instanceBoot 3)) (instanceList 78)
 runs-agree =
     demand3-here .runs (instanceBoot 3)
-    (record { base = refl; frames = refl; order = refl; text = refl; lengths = record { marks = refl; words = refl; bitmap = refl } }) .agree fiveAndSix
+    (record { base = refl; frames = refl; blockOrder = refl; text = refl; lengths = record { marks = refl; words = refl; bitmap = refl } }) .agree fiveAndSix
     (instanceList 78) other-words

@@ -8,13 +8,13 @@ use Prim.Native.Nat.{ℕ}
 use borrow.Author.Tests.{not-true, eqb-false}
 use Rattle.search.proofs.Bools.{by-cases, and-left, and-right}
 use Rattle.frames.specs.Tables.{Tables, tables}
-use Rattle.rules.specs.Calls.{Call}
-use Rattle.rules.specs.ledger.Ledger.{fed}
-use Rattle.rules.specs.ledger.Runs.{Lent, own, another, Item, item, onOwn, State, isRefused, lentAs, keptAs, lentTo, outcomeIn, ownAfter, next, isBoot, isOwn, mayPass}
+use Rattle.rules.specs.declared.Call.{Call}
+use Rattle.rules.specs.ledger.Roles.{roleOf, fed}
+use Rattle.rules.specs.ledger.Lists.{Source, own, another, Item, itemWith, State, isRefused, lentAs, keptAs, lentTo, outcomeIn, ownAfter, next, isOwn, mayPass}
 use Rattle.rules.proofs.promises.Unchanged.{refusal-changes-nothing}
 
 -- a table that is left as it was lent
-kept-as : (l : Lent) (was : List ℕ) → keptAs l was (lentAs l was) ≡ was
+kept-as : (l : Source) (was : List ℕ) → keptAs l was (lentAs l was) ≡ was
 kept-as own was = refl
 kept-as (another table) was = refl
 
@@ -25,34 +25,35 @@ pub refused-item : (s : State) (x : Item) → isRefused (outcomeIn s x) ≡ true
 unfolding next
 refused-item s x e =
     let o = outcomeIn s x in
-    let same = refusal-changes-nothing (x .call) (s .machine) (lentTo x (s .own)) (eqb-false (o .answer .refusal) 0 (not-true _ e)) in
+    let same = refusal-changes-nothing (x .call) (x .text) (s .machine) (lentTo x (s .own)) (eqb-false (o .answer .refusal) 0 (not-true _ e)) in
     let kept : ownAfter x (s .own) (o .left) ≡ s .own = ap (ownAfter x (s .own)) (same .1) ∙ own-kept x (s .own) in
     let told = ap (λ (b : Bool). fed (x .call) b (o .answer .first) (s .ledger)) e in
     λ i. record { machine = same .0 i; own = kept i; ledger = told i }
 
-own-is : (l : Lent) → isOwn l ≡ true → l ≡ own
+own-is : (l : Source) → isOwn l ≡ true → l ≡ own
 own-is own e = refl
 own-is (another table) e = absurd (true≢false (sym e))
 
 passing :
-    (P : Item → Type 0) (c : Call) (marks words bitmap : Lent) →
-    mayPass (item c marks words bitmap) ≡ true → (isBoot c ≡ false → P (onOwn c)) → P (item c marks words bitmap)
-passing P c marks words bitmap e passes =
-    let last = not (isBoot c) && isOwn marks && isOwn words in
+    (P : Item → Type 0) (c : Call) (text : List ℕ) (marks words bitmap : Source) →
+    let x = itemWith c text marks words bitmap in
+    mayPass x ≡ true → (roleOf c .isBoot ≡ false → P (itemWith c text own own own)) → P x
+passing P c text marks words bitmap e passes =
+    let last = not (roleOf c .isBoot) && isOwn marks && isOwn words in
     let first = and-left last (isOwn bitmap) e in
-    let two = not (isBoot c) && isOwn marks in
+    let two = not (roleOf c .isBoot) && isOwn marks in
     let both = and-left two (isOwn words) first in
     rw (
-      own-is marks (and-right (not (isBoot c)) (isOwn marks) both),
+      own-is marks (and-right (not (roleOf c .isBoot)) (isOwn marks) both),
       own-is words (and-right two (isOwn words) first),
       own-is bitmap (and-right last (isOwn bitmap) e),
-    ) (passes (not-true (isBoot c) (and-left (not (isBoot c)) (isOwn marks) both)))
+    ) (passes (not-true (roleOf c .isBoot) (and-left (not (roleOf c .isBoot)) (isOwn marks) both)))
 
 -- what holds of an item that is refused, and of a call that is no boot and is lent the boot's own tables, holds of an admitted item
 pub item-cases :
     (P : Item → Type 0) (s : State) (x : Item) →
     (isRefused (outcomeIn s x) || mayPass x) ≡ true →
-    (isRefused (outcomeIn s x) ≡ true → P x) → (isBoot (x .call) ≡ false → P (onOwn (x .call))) → P x
+    (isRefused (outcomeIn s x) ≡ true → P x) → (roleOf (x .call) .isBoot ≡ false → P (itemWith (x .call) (x .text) own own own)) → P x
 item-cases P s x e refused passes =
     by-cases (isRefused (outcomeIn s x)) refused
-    (λ n. passing P (x .call) (x .marks) (x .words) (x .bitmap) (ap (λ (b : Bool). b || mayPass x) (sym n) ∙ e) passes)
+    (λ n. passing P (x .call) (x .text) (x .marks) (x .words) (x .bitmap) (ap (λ (b : Bool). b || mayPass x) (sym n) ∙ e) passes)

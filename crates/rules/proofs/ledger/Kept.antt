@@ -16,15 +16,16 @@ use Rattle.search.proofs.Bools.{clash}
 use Rattle.frames.specs.Units.{place}
 use Rattle.frames.specs.Marks.{hasKind, isPageOf, isGranted, pinned}
 use Rattle.frames.specs.Tables.{Tables, markAt, setPage}
-use Rattle.rules.specs.Record.{Machine}
+use Rattle.rules.specs.declared.Call.{Call}
+use Rattle.rules.specs.declared.Record.{Record}
 use Rattle.answer.specs.Answers.{done}
 use Rattle.rules.specs.Outcomes.{Outcome, outcome, refuse}
 use Rattle.rules.specs.PageCalls.{pageAt}
-use Rattle.rules.specs.Calls.{Call}
 use Rattle.rules.proofs.Shapes.{Shape, shape-known}
-use Rattle.rules.specs.ledger.Ledger.{Ledger, entry, fed, withPage}
-use Rattle.rules.specs.ledger.Runs.{isRefused, isPinOf}
-use Rattle.rules.specs.ledger.Invariant.{PlaceSound, NameSound, Sound}
+use Rattle.rules.specs.ledger.Ledger.{Ledger, withPage}
+use Rattle.rules.specs.ledger.Roles.{roleOf, fed}
+use Rattle.rules.specs.ledger.Lists.{isRefused}
+use Rattle.rules.specs.steps.Invariant.{PlaceSound, NameSound, Sound}
 use Rattle.rules.proofs.ledger.Tables.{OneChange, set-one}
 use Rattle.rules.proofs.ShapeFacts.{shape-lengths}
 use Rattle.rules.proofs.ledger.Names.{page-place, same-or-not, update-other, PageChange, names-change}
@@ -36,20 +37,20 @@ abbrev pub ledgerAfter : Call → Outcome → Ledger → Ledger
 ledgerAfter c o l = fed c (isRefused o) (o .answer .first) l
 
 -- a page that was pinned, and stands where it stood. An accepted pin of the page itself is the only call that need not leave it so
-pub record Stays (m : Machine) (t : Tables) (l : Ledger) (o : Outcome) (name : ℕ) : Type 0 where
+pub record Stays (m : Record) (t : Tables) (l : Ledger) (o : Outcome) (name : ℕ) : Type 0 where
   pub wasPinned : l .pinned name ≡ true
-  pub frames : o .machine .frames ≡ m .frames
-  pub base : o .machine .base .0 ≡ m .base .0
+  pub frames : o .machine .memory .frames ≡ m .memory .frames
+  pub base : o .machine .memory .base .0 ≡ m .memory .base .0
   pub place : pageAt (o .machine) (o .left) name ≡ pageAt m t name
 
-pub record Kept (c : Call) (m : Machine) (t : Tables) (l : Ledger) (o : Outcome) : Type 0 where
+pub record Kept (c : Call) (m : Record) (t : Tables) (l : Ledger) (o : Outcome) : Type 0 where
   pub sound : Sound (o .machine) (o .left) (ledgerAfter c o l)
-  pub pins : (name : ℕ) → (isPinOf name c && not (isRefused o)) ≡ false → ledgerAfter c o l .pinned name ≡ true → Stays m t l o name
+  pub pins : (name : ℕ) → (roleOf c .pins name && not (isRefused o)) ≡ false → ledgerAfter c o l .pinned name ≡ true → Stays m t l o name
 
-pub refused-number : (m : Machine) (t : Tables) (number : ℕ) → 0 < number → isRefused (refuse m t number) ≡ true
+pub refused-number : (m : Record) (t : Tables) (number : ℕ) → 0 < number → isRefused (refuse m t number) ≡ true
 refused-number m t number h = ap not (ne-eqb number 0 (omega arith))
 
-pub kept-refused : (c : Call) (m : Machine) (t : Tables) (l : Ledger) → Sound m t l → (number : ℕ) → 0 < number → Kept c m t l (refuse m t number)
+pub kept-refused : (c : Call) (m : Record) (t : Tables) (l : Ledger) → Sound m t l → (number : ℕ) → 0 < number → Kept c m t l (refuse m t number)
 kept-refused c m t l s number h =
     let same : ledgerAfter c (refuse m t number) l ≡ l = ap (λ (b : Bool). fed c b 0 l) (refused-number m t number h) in
     record {
@@ -58,13 +59,13 @@ kept-refused c m t l s number h =
     }
 
 pub pin-stays :
-    (m m′ : Machine) (t t′ : Tables) (l l′ : Ledger) (name : ℕ) →
+    (m m′ : Record) (t t′ : Tables) (l l′ : Ledger) (name : ℕ) →
     NameSound m t l name →
     NameSound m′ t′ l′ name →
-    m′ .frames ≡ m .frames →
+    m′ .memory .frames ≡ m .memory .frames →
     l .pinned name ≡ true →
     l′ .pinned name ≡ true →
-    ((p : ℕ) → p < m .frames → isPageOf name (markAt t (place p)) ≡ true → hasKind pinned (markAt t (place p)) ≡ true → markAt t′ (place p) ≡ markAt t (place p)) →
+    ((p : ℕ) → p < m .memory .frames → isPageOf name (markAt t (place p)) ≡ true → hasKind pinned (markAt t (place p)) ≡ true → markAt t′ (place p) ≡ markAt t (place p)) →
     pageAt m′ t′ name ≡ pageAt m t name
 pin-stays m m′ t t′ l l′ name s s′ same a b unmoved =
     let page = s .standing (s .pinnedLive a) in
@@ -75,7 +76,7 @@ pin-stays m m′ t t′ l l′ name s s′ same a b unmoved =
     ap place (sym at) ∙
     sym (page-place m t name (page .at) (page .inside) (page .here) (page .only))
 
-module _ (m : Machine) (t : Tables) (l : Ledger) (s : Sound m t l) (p mark word name : ℕ) (live isPinned : Bool) (entered : ℕ) (c : PageChange m t p mark word name live isPinned entered) where
+module _ (m : Record) (t : Tables) (l : Ledger) (s : Sound m t l) (p mark word name : ℕ) (live isPinned : Bool) (entered : ℕ) (c : PageChange m t p mark word name live isPinned entered) where
   abbrev t′ : Tables
   t′ = setPage t (place p) mark word
 
@@ -137,15 +138,15 @@ no-pin true e = e
 no-pin false e = refl
 
 pub done-kept :
-    (c : Call) (m : Machine) (t t′ : Tables) (l l′ : Ledger) (first second : ℕ) →
-    entry c first l ≡ l′ →
+    (c : Call) (m : Record) (t t′ : Tables) (l l′ : Ledger) (first second : ℕ) →
+    roleOf c .entry first l ≡ l′ →
     Sound m t′ l′ →
-    ((x : ℕ) → isPinOf x c ≡ false → l′ .pinned x ≡ true → (l .pinned x ≡ true) × (pageAt m t′ x ≡ pageAt m t x)) →
+    ((x : ℕ) → roleOf c .pins x ≡ false → l′ .pinned x ≡ true → (l .pinned x ≡ true) × (pageAt m t′ x ≡ pageAt m t x)) →
     Kept c m t l (outcome m (done first second) t′)
 done-kept c m t t′ l l′ first second e s stay =
     record {
       sound = rw e s;
       pins = λ x a b.
-          let both = stay x (no-pin (isPinOf x c) a) (sym (ap (λ (k : Ledger). k .pinned x) e) ∙ b) in
+          let both = stay x (no-pin (roleOf c .pins x) a) (sym (ap (λ (k : Ledger). k .pinned x) e) ∙ b) in
           record { wasPinned = both .0; frames = refl; base = refl; place = both .1 };
     }

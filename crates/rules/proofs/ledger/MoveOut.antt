@@ -12,11 +12,12 @@ use Rattle.search.proofs.Counts.{many-pass, many-fail, many-cong, many-zero}
 use Rattle.frames.specs.Units.{place}
 use Rattle.frames.specs.Marks.{hasKind, canLeave, free, movable, pinned}
 use Rattle.frames.specs.Tables.{Tables, markAt, wordAt, setPage}
-use Rattle.rules.specs.Record.{Machine, isOrdinary}
+use Rattle.rules.specs.declared.Record.{Record}
+use Rattle.rules.specs.Record.{isOrdinary}
 use Rattle.rules.specs.PageCalls.{lowestPlace, freeOrdinary}
 use Rattle.rules.specs.DeviceCalls.{movePage, moveOut}
 use Rattle.rules.specs.ledger.Ledger.{Ledger}
-use Rattle.rules.specs.ledger.Invariant.{Sound}
+use Rattle.rules.specs.steps.Invariant.{Sound}
 use Rattle.rules.proofs.ledger.Marks.{has-kind, leave-cases, kind-has}
 use Rattle.rules.proofs.ledger.Names.{same-or-not}
 use Rattle.rules.proofs.ledger.Grants.{many-run}
@@ -24,13 +25,13 @@ use Rattle.rules.proofs.AreaRight.{ordinary-free, ordinary-is}
 use Rattle.rules.proofs.ledger.MovePage.{moved-sound, mark-left, mark-arrived, mark-other}
 
 -- the run of d places from p on can be left: its pages can move, it lies in an area, and there is room
-pub record CanEmpty (m : Machine) (t : Tables) (p d : ℕ) : Type 0 where
-  pub inside : p + d ≤ m .frames
+pub record CanEmpty (m : Record) (t : Tables) (p d : ℕ) : Type 0 where
+  pub inside : p + d ≤ m .memory .frames
   pub leave : (q : ℕ) → p ≤ q → q < p + d → canLeave (markAt t (place q)) ≡ true
   pub area : (q : ℕ) → p ≤ q → q < p + d → isOrdinary m (place q) ≡ false
-  pub room : howMany (λ q. hasKind movable (markAt t (place q))) p d ≤ howMany (λ q. freeOrdinary m t (place q)) 0 (m .frames)
+  pub room : howMany (λ q. hasKind movable (markAt t (place q))) p d ≤ howMany (λ q. freeOrdinary m t (place q)) 0 (m .memory .frames)
 
-pub record Emptied (m : Machine) (t t′ : Tables) (l : Ledger) (p d : ℕ) : Type 0 where
+pub record Emptied (m : Record) (t t′ : Tables) (l : Ledger) (p d : ℕ) : Type 0 where
   pub sound : Sound m t′ l
   pub emptied : (q : ℕ) → p ≤ q → q < p + d → hasKind free (markAt t′ (place q)) ≡ true
   pub areas : (q : ℕ) → isOrdinary m (place q) ≡ false → (p ≤ q → q < p + d → ⊥) → markAt t′ (place q) ≡ markAt t (place q)
@@ -38,7 +39,7 @@ pub record Emptied (m : Machine) (t t′ : Tables) (l : Ledger) (p d : ℕ) : Ty
   pub bitmap : t′ .bitmap ≡ t .bitmap
 
 -- one step of it, and what is left to do
-pub record Stepped (m : Machine) (t t′ : Tables) (l : Ledger) (p d : ℕ) : Type 0 where
+pub record Stepped (m : Record) (t t′ : Tables) (l : Ledger) (p d : ℕ) : Type 0 where
   pub sound : Sound m t′ l
   pub emptied : hasKind free (markAt t′ (place p)) ≡ true
   pub areas : (q : ℕ) → isOrdinary m (place q) ≡ false → q ≢ p → markAt t′ (place q) ≡ markAt t (place q)
@@ -46,7 +47,7 @@ pub record Stepped (m : Machine) (t t′ : Tables) (l : Ledger) (p d : ℕ) : Ty
   pub bitmap : t′ .bitmap ≡ t .bitmap
   pub rest : CanEmpty m t′ (suc p) d
 
-module _ (m : Machine) (l : Ledger) where
+module _ (m : Record) (l : Ledger) where
   abbrev isMovable : Tables → ℕ → Bool
   isMovable t q = hasKind movable (markAt t (place q))
 
@@ -65,7 +66,7 @@ module _ (m : Machine) (l : Ledger) where
   same-target t t′ q e = target-is t q ∙ ap (λ (x : ℕ). hasKind free x && isOrdinary m (place q)) (sym e) ∙ sym (target-is t′ q)
 
   module _ (t : Tables) (p d : ℕ) (s : Sound m t l) (can : CanEmpty m t p (suc d)) where
-    p-inside : p < m .frames
+    p-inside : p < m .memory .frames
     p-inside = let inside = can .inside in omega arith
 
     here-area : isOrdinary m (place p) ≡ false
@@ -95,22 +96,22 @@ module _ (m : Machine) (l : Ledger) where
       abbrev target : ℕ
       target = lowestPlace m (freeOrdinary m t) .0
 
-      some-target : 0 < howMany (isTarget t) 0 (m .frames)
+      some-target : 0 < howMany (isTarget t) 0 (m .memory .frames)
       some-target =
           let room = can .room in
           let more = many-pass (isMovable t) p d moves in
           omega arith
 
-      target-inside : target < m .frames
+      target-inside : target < m .memory .frames
       target-inside =
-          below-or-not target (m .frames) (λ h. h)
+          below-or-not target (m .memory .frames) (λ h. h)
           (λ h.
-          let none = many-zero (isTarget t) 0 (m .frames) (λ k a b. found-low (isTarget t) (m .frames) k (omega arith)) in
+          let none = many-zero (isTarget t) 0 (m .memory .frames) (λ k a b. found-low (isTarget t) (m .memory .frames) k (omega arith)) in
           let some = some-target in
           absurd (omega arith))
 
       target-free : isTarget t target ≡ true
-      target-free = found-passes (isTarget t) (m .frames) target-inside
+      target-free = found-passes (isTarget t) (m .memory .frames) target-inside
 
       target-ordinary : isOrdinary m (place target) ≡ true
       target-ordinary = ordinary-is m t (place target) target-free
@@ -137,10 +138,10 @@ module _ (m : Machine) (l : Ledger) where
       others : (k : ℕ) → k ≢ p → k ≢ target → markAt t₁ (place k) ≡ markAt t (place k)
       others = mark-other m t l s p target p-inside target-inside apart moves target-vacant
 
-      fewer-targets : howMany (isTarget t) 0 (m .frames) ≡ howMany (isTarget t₁) 0 (m .frames) + 1
+      fewer-targets : howMany (isTarget t) 0 (m .memory .frames) ≡ howMany (isTarget t₁) 0 (m .memory .frames) + 1
       fewer-targets =
           let inside = target-inside in
-          many-run (isTarget t) (isTarget t₁) (m .frames) target 1 (omega arith)
+          many-run (isTarget t) (isTarget t₁) (m .memory .frames) target 1 (omega arith)
           (λ k a b. let here : k ≡ target = omega arith in rw here target-free)
           (λ k a b.
           let here : k ≡ target = omega arith in

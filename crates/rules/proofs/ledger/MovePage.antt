@@ -11,10 +11,10 @@ use Rattle.search.proofs.Bools.{by-cases, clash}
 use Rattle.frames.specs.Units.{place}
 use Rattle.frames.specs.Marks.{fieldOf, hasKind, isPageOf, isGranted, free, movable, pinned, fixed}
 use Rattle.frames.specs.Tables.{Tables, tables, markAt, wordAt, setPage}
-use Rattle.rules.specs.Record.{Machine}
+use Rattle.rules.specs.declared.Record.{Record}
 use Rattle.rules.proofs.Shapes.{Shape, shape-known}
 use Rattle.rules.specs.ledger.Ledger.{Ledger, update, withPage}
-use Rattle.rules.specs.ledger.Invariant.{PlaceSound, PageSound, Sound}
+use Rattle.rules.specs.steps.Invariant.{PlaceSound, PageSound, Sound}
 use Rattle.rules.proofs.ledger.Marks.{isPage, has-kind, page-named, one-name, no-page, free-page, free-granted, page-granted}
 use Rattle.rules.proofs.ledger.Tables.{OneChange, set-one}
 use Rattle.rules.proofs.ledger.Names.{same-or-not, update-here, update-other, PageChange}
@@ -26,7 +26,7 @@ update-back f k v w e =
     fun-ext (λ x.
     same-or-not x k (λ q. rw q (update-here (update f k v) k w ∙ e)) (λ n. update-other (update f k v) k w x n ∙ update-other f k v x n))
 
-module _ (m : Machine) (t : Tables) (l : Ledger) (s : Sound m t l) (p q : ℕ) (p-inside : p < m .frames) (q-inside : q < m .frames) (apart : q ≢ p) (moves : hasKind movable (markAt t (place p)) ≡ true) (vacant : hasKind free (markAt t (place q)) ≡ true) where
+module _ (m : Record) (t : Tables) (l : Ledger) (s : Sound m t l) (p q : ℕ) (p-inside : p < m .memory .frames) (q-inside : q < m .memory .frames) (apart : q ≢ p) (moves : hasKind movable (markAt t (place p)) ≡ true) (vacant : hasKind free (markAt t (place q)) ≡ true) where
   abbrev mark : ℕ
   mark = markAt t (place p)
 

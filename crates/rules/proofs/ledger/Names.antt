@@ -16,10 +16,10 @@ use Rattle.search.proofs.Lowest.{found-passes, found-is, found-some}
 use Rattle.frames.specs.Units.{place}
 use Rattle.frames.specs.Marks.{hasKind, isPageOf, pinned}
 use Rattle.frames.specs.Tables.{Tables, markAt, wordAt}
-use Rattle.rules.specs.Record.{Machine}
+use Rattle.rules.specs.declared.Record.{Record}
 use Rattle.rules.specs.PageCalls.{badName, pageAt, isLive}
 use Rattle.rules.specs.ledger.Ledger.{Ledger, update, withPage}
-use Rattle.rules.specs.ledger.Invariant.{NameSound}
+use Rattle.rules.specs.steps.Invariant.{NameSound}
 use Rattle.rules.proofs.ledger.Marks.{isPage, page-of}
 use Rattle.rules.proofs.ledger.Tables.{OneChange}
 
@@ -37,41 +37,41 @@ same-or-not x k yes-case no-case = by-cases (eqb x k) (λ e. yes-case (eqb-true 
 
 -- ---- where the machine looks for a name
 
-module _ (m : Machine) (t : Tables) (name : ℕ) where
-  pub page-place : (p : ℕ) → p < m .frames → isPageOf name (markAt t (place p)) ≡ true → ((q : ℕ) → q < m .frames → isPageOf name (markAt t (place q)) ≡ true → q ≡ p) → pageAt m t name ≡ place p
+module _ (m : Record) (t : Tables) (name : ℕ) where
+  pub page-place : (p : ℕ) → p < m .memory .frames → isPageOf name (markAt t (place p)) ≡ true → ((q : ℕ) → q < m .memory .frames → isPageOf name (markAt t (place q)) ≡ true → q ≡ p) → pageAt m t name ≡ place p
   unfolding pageAt
   page-place p h e only =
       ap place
-      (found-is (λ i. isPageOf name (markAt t (place i))) (m .frames) p h e
+      (found-is (λ i. isPageOf name (markAt t (place i))) (m .memory .frames) p h e
       (λ i a.
       by-cases (isPageOf name (markAt t (place i))) (λ y. absurd (below-self i p a (only i (omega arith) y))) (λ n. n)))
     where
       below-self : (i p : ℕ) → i < p → i ≡ p → ⊥
       below-self i p a e = omega arith
 
-  pub live-below : isLive m t name ≡ true → pageAt m t name .0 < m .frames
-  live-below e = ltb-true (pageAt m t name .0) (m .frames) e
+  pub live-below : isLive m t name ≡ true → pageAt m t name .0 < m .memory .frames
+  live-below e = ltb-true (pageAt m t name .0) (m .memory .frames) e
 
   pub live-here : isLive m t name ≡ true → isPageOf name (markAt t (pageAt m t name)) ≡ true
   unfolding pageAt
-  live-here e = found-passes (λ i. isPageOf name (markAt t (place i))) (m .frames) (live-below e)
+  live-here e = found-passes (λ i. isPageOf name (markAt t (place i))) (m .memory .frames) (live-below e)
 
-  pub dead-absent : isLive m t name ≡ false → (q : ℕ) → q < m .frames → isPageOf name (markAt t (place q)) ≡ false
+  pub dead-absent : isLive m t name ≡ false → (q : ℕ) → q < m .memory .frames → isPageOf name (markAt t (place q)) ≡ false
   unfolding pageAt
   dead-absent e q h =
       by-cases (isPageOf name (markAt t (place q)))
-      (λ y. absurd (too-far (found-some (λ i. isPageOf name (markAt t (place i))) (m .frames) q y)))
+      (λ y. absurd (too-far (found-some (λ i. isPageOf name (markAt t (place i))) (m .memory .frames) q y)))
       (λ n. n)
     where
-      too-far : lowest (λ i. isPageOf name (markAt t (place i))) (m .frames) ≤ q → ⊥
-      too-far a = omega (arith, ltb-false (lowest (λ i. isPageOf name (markAt t (place i))) (m .frames)) (m .frames) e)
+      too-far : lowest (λ i. isPageOf name (markAt t (place i))) (m .memory .frames) ≤ q → ⊥
+      too-far a = omega (arith, ltb-false (lowest (λ i. isPageOf name (markAt t (place i))) (m .memory .frames)) (m .memory .frames) e)
 
   pub live-is : (l : Ledger) → NameSound m t l name → isLive m t name ≡ l .live name
   live-is l s =
       by-cases (l .live name)
       (λ y.
       let page = s .standing y in
-      rw (page-place (page .at) (page .inside) (page .here) (page .only), y) (lt-ltb (page .at) (m .frames) (page .inside)))
+      rw (page-place (page .at) (page .inside) (page .here) (page .only), y) (lt-ltb (page .at) (m .memory .frames) (page .inside)))
       (λ n.
       by-cases (isLive m t name) (λ e. clash (isPageOf name (markAt t (pageAt m t name))) (live-here e) (s .absent n (pageAt m t name .0) (live-below e)))
       (λ e. e ∙ sym n))
@@ -79,9 +79,9 @@ module _ (m : Machine) (t : Tables) (name : ℕ) where
 -- ---- one frame and one name change
 
 -- what the new mark and word of a frame must be, for the new entries of a name
-pub record PageChange (m : Machine) (t : Tables) (p mark word name : ℕ) (live isPinned : Bool) (entered : ℕ) : Type 0 where
-  pub inside : p < m .frames
-  pub before : (q : ℕ) → q < m .frames → isPageOf name (markAt t (place q)) ≡ true → q ≡ p
+pub record PageChange (m : Record) (t : Tables) (p mark word name : ℕ) (live isPinned : Bool) (entered : ℕ) : Type 0 where
+  pub inside : p < m .memory .frames
+  pub before : (q : ℕ) → q < m .memory .frames → isPageOf name (markAt t (place q)) ≡ true → q ≡ p
   pub replaced : (x : ℕ) → isPageOf x (markAt t (place p)) ≡ true → x ≡ name
   pub new : (x : ℕ) → isPageOf x mark ≡ true → x ≡ name
   pub live-if : isPageOf name mark ≡ live
@@ -90,12 +90,12 @@ pub record PageChange (m : Machine) (t : Tables) (p mark word name : ℕ) (live 
   pub pinnedLive : isPinned ≡ true → live ≡ true
   pub allowed : live ≡ true → badName name ≡ false
 
-module _ (m : Machine) (t t′ : Tables) (l : Ledger) (p mark word name : ℕ) (live isPinned : Bool) (entered : ℕ) (one : OneChange t t′ p mark word) (c : PageChange m t p mark word name live isPinned entered) where
+module _ (m : Record) (t t′ : Tables) (l : Ledger) (p mark word name : ℕ) (live isPinned : Bool) (entered : ℕ) (one : OneChange t t′ p mark word) (c : PageChange m t p mark word name live isPinned entered) where
   abbrev l′ : Ledger
   l′ = withPage l name live isPinned entered
 
   -- after the change, only frame p can have the name, and frame p no other
-  only-here : (q : ℕ) → q < m .frames → isPageOf name (markAt t′ (place q)) ≡ true → q ≡ p
+  only-here : (q : ℕ) → q < m .memory .frames → isPageOf name (markAt t′ (place q)) ≡ true → q ≡ p
   only-here q h e = same-or-not q p (λ s. s) (λ n. c .before q h (rw (one .marks q n) at e))
 
   changed-name : NameSound m t′ l′ name
@@ -165,10 +165,10 @@ module _ (m : Machine) (t t′ : Tables) (l : Ledger) (p mark word name : ℕ) (
 -- ---- no page changes
 
 -- each page of either tables stands, with its word, in the other
-pub record PagesKept (m : Machine) (t t′ : Tables) : Type 0 where
-  pub forth : (q : ℕ) → q < m .frames → isPage (markAt t (place q)) ≡ true → markAt t′ (place q) ≡ markAt t (place q)
-  pub back : (q : ℕ) → q < m .frames → isPage (markAt t′ (place q)) ≡ true → markAt t′ (place q) ≡ markAt t (place q)
-  pub words : (q : ℕ) → q < m .frames → isPage (markAt t (place q)) ≡ true → wordAt t′ (place q) ≡ wordAt t (place q)
+pub record PagesKept (m : Record) (t t′ : Tables) : Type 0 where
+  pub forth : (q : ℕ) → q < m .memory .frames → isPage (markAt t (place q)) ≡ true → markAt t′ (place q) ≡ markAt t (place q)
+  pub back : (q : ℕ) → q < m .memory .frames → isPage (markAt t′ (place q)) ≡ true → markAt t′ (place q) ≡ markAt t (place q)
+  pub words : (q : ℕ) → q < m .memory .frames → isPage (markAt t (place q)) ≡ true → wordAt t′ (place q) ≡ wordAt t (place q)
 
 -- the ledgers have the same pages
 pub record SamePages (l l′ : Ledger) (x : ℕ) : Type 0 where
@@ -176,8 +176,8 @@ pub record SamePages (l l′ : Ledger) (x : ℕ) : Type 0 where
   pub pinned : l′ .pinned x ≡ l .pinned x
   pub word : l′ .word x ≡ l .word x
 
-module _ (m m′ : Machine) (t t′ : Tables) (l l′ : Ledger) (frames : m′ .frames ≡ m .frames) (k : PagesKept m t t′) where
-  stood-before : (x q : ℕ) → q < m .frames → isPageOf x (markAt t′ (place q)) ≡ true → isPageOf x (markAt t (place q)) ≡ true
+module _ (m m′ : Record) (t t′ : Tables) (l l′ : Ledger) (frames : m′ .memory .frames ≡ m .memory .frames) (k : PagesKept m t t′) where
+  stood-before : (x q : ℕ) → q < m .memory .frames → isPageOf x (markAt t′ (place q)) ≡ true → isPageOf x (markAt t (place q)) ≡ true
   stood-before x q h e = rw (k .back q h (page-of x (markAt t′ (place q)) e)) at e
 
   pub names-kept : (x : ℕ) → SamePages l l′ x → NameSound m t l x → NameSound m′ t′ l′ x
@@ -195,7 +195,7 @@ module _ (m m′ : Machine) (t t′ : Tables) (l l′ : Ledger) (frames : m′ .
               word = k .words (page .at) (page .inside) (page-of x (markAt t (place (page .at))) (page .here)) ∙ page .word ∙ sym (same .word);
             };
         absent = λ n q h.
-            let h′ : q < m .frames = rw frames at h in
+            let h′ : q < m .memory .frames = rw frames at h in
             by-cases (isPageOf x (markAt t′ (place q)))
             (λ y. clash (isPageOf x (markAt t (place q))) (stood-before x q h′ y) (s .absent (sym (same .live) ∙ n) q h′)) (λ e. e);
         pinnedLive = λ y. same .live ∙ s .pinnedLive (sym (same .pinned) ∙ y);

@@ -11,16 +11,14 @@ use lib.Seq.{getD-set-same, getD-set-other, set-out}
 use Rattle.search.proofs.Bools.{below-or-not}
 use Rattle.frames.specs.Units.{place}
 use Rattle.frames.specs.Marks.{fieldOf}
-use Rattle.frames.specs.Tables.{Tables, tables, markAt, wordAt, setPage, fill, fillPages, withBitmap}
+use Rattle.frames.specs.Tables.{Tables, markAt, wordAt, setPage, fill, fillPages, withBitmap}
+use Rattle.rules.proofs.EachCall.{otherWords}
 use Rattle.rules.proofs.ledger.Marks.{isPage}
 use Rattle.rules.proofs.ledger.Names.{same-or-not}
 
 -- a page of a chosen name
 abbrev pub isHidden : (ℕ → Bool) → ℕ → Bool
 isHidden chosen mark = isPage mark && chosen (fieldOf mark)
-
-abbrev pub otherWords : Tables → List ℕ → Tables
-otherWords t words = tables (t .marks) words (t .bitmap)
 
 pub record SameWords (chosen : ℕ → Bool) (t : Tables) (words : List ℕ) : Type 0 where
   pub square : length (t .marks) ≡ length (t .words)

@@ -9,9 +9,10 @@ use lib.Dec.{eqb}
 use Rattle.search.proofs.Bools.{clash}
 use Rattle.frames.specs.Units.{place}
 use Rattle.frames.specs.Marks.{markOf, hasKind, isPageOf, isGranted, pinned}
-use Rattle.rules.specs.Record.{Machine, isOrdinary}
+use Rattle.rules.specs.declared.Record.{Record}
+use Rattle.rules.specs.Record.{isOrdinary}
 use Rattle.rules.specs.ledger.Ledger.{Ledger}
-use Rattle.rules.specs.ledger.Invariant.{PlaceSound}
+use Rattle.rules.specs.steps.Invariant.{PlaceSound}
 use Rattle.rules.proofs.ledger.Marks.{mark-kind, mark-field, page-named, one-name}
 
 -- what a kind of page is not
@@ -41,7 +42,7 @@ module _ (name kind : ℕ) (isPinned : Bool) (k : PageKind kind isPinned) where
   made-ungranted = rw kind-of (k .ungranted)
 
   pub made-fits :
-      (m : Machine) (l : Ledger) (p word : ℕ) → (eqb kind 3 ≡ true → isOrdinary m (place p) ≡ true) → PlaceSound m l p (markOf name kind) word
+      (m : Record) (l : Ledger) (p word : ℕ) → (eqb kind 3 ≡ true → isOrdinary m (place p) ≡ true) → PlaceSound m l p (markOf name kind) word
   made-fits m l p word ordinary =
       record {
         used = rw kind-of (k .small);

@@ -10,12 +10,14 @@ use Rattle.frames.specs.declared.Place.{Place}
 use Rattle.frames.specs.Units.{place}
 use Rattle.frames.specs.Marks.{markOf, isPageOf, movable, pinned}
 use Rattle.frames.specs.Tables.{Tables, markAt, setPage}
-use Rattle.rules.specs.Record.{Machine, frameAt, isOrdinary}
+use Rattle.rules.specs.declared.Call.{Call}
+use Rattle.rules.specs.declared.Record.{Record}
+use Rattle.rules.specs.Record.{frameAt, isOrdinary}
 use Rattle.rules.specs.PageCalls.{isPlace, lowestPlace, badName, isLive, isFree, freeOrdinary, freeInArea, putAt}
 use Rattle.rules.specs.PageCalls as Page
-use Rattle.rules.specs.Calls.{Call}
-use Rattle.rules.specs.ledger.Ledger.{Ledger, entry, withPage}
-use Rattle.rules.specs.ledger.Invariant.{Sound}
+use Rattle.rules.specs.ledger.Ledger.{Ledger, withPage}
+use Rattle.rules.specs.ledger.Roles.{roleOf}
+use Rattle.rules.specs.steps.Invariant.{Sound}
 use Rattle.rules.proofs.Checks.{checked-cases}
 use Rattle.rules.proofs.AreaRight.{ordinary-free, ordinary-is}
 use Rattle.rules.proofs.ledger.Marks.{no-page, free-page, free-granted}
@@ -25,12 +27,12 @@ use Rattle.rules.proofs.ledger.PageKinds.{PageKind, made-page, made-onl
 
 -- ---- the place of a put
 
-module _ (m : Machine) (t : Tables) (kind : ℕ) where
+module _ (m : Record) (t : Tables) (kind : ℕ) where
   abbrev ordinaryPlace : Place
   ordinaryPlace = lowestPlace m (freeOrdinary m t)
 
   free-ordinary : isPlace m ordinaryPlace ≡ true → freeOrdinary m t ordinaryPlace ≡ true
-  free-ordinary e = found-passes (λ i. freeOrdinary m t (place i)) (m .frames) (ltb-true (ordinaryPlace .0) (m .frames) e)
+  free-ordinary e = found-passes (λ i. freeOrdinary m t (place i)) (m .memory .frames) (ltb-true (ordinaryPlace .0) (m .memory .frames) e)
 
   area-free : (p : Place) → freeInArea m t p ≡ true → isFree t p ≡ true
   unfolding freeInArea
@@ -44,7 +46,7 @@ module _ (m : Machine) (t : Tables) (kind : ℕ) where
       rw c
       (λ e.
       area-free (lowestPlace m (freeInArea m t))
-      (found-passes (λ i. freeInArea m t (place i)) (m .frames) (ltb-true (lowestPlace m (freeInArea m t) .0) (m .frames) e))))
+      (found-passes (λ i. freeInArea m t (place i)) (m .memory .frames) (ltb-true (lowestPlace m (freeInArea m t) .0) (m .memory .frames) e))))
 
   put-ordinary : not (eqb kind movable) ≡ true → isPlace m (putAt kind m t) ≡ true → isOrdinary m (putAt kind m t) ≡ true
   unfolding putAt
@@ -52,7 +54,7 @@ module _ (m : Machine) (t : Tables) (kind : ℕ) where
       let c : (isPlace m ordinaryPlace || not (eqb kind movable)) ≡ true = rw k (or-true-right (isPlace m ordinaryPlace)) in
       rw c (λ e. ordinary-is m t ordinaryPlace (free-ordinary e))
 
-module _ (m : Machine) (t : Tables) (l : Ledger) (s : Sound m t l) (name : ℕ) where
+module _ (m : Record) (t : Tables) (l : Ledger) (s : Sound m t l) (name : ℕ) where
   put-change :
       (kind : ℕ) →
       PageKind kind false →
@@ -61,7 +63,7 @@ module _ (m : Machine) (t : Tables) (l : Ledger) (s : Sound m t l) (name : ℕ) 
       isPlace m (putAt kind m t) ≡ true → PageChange m t (putAt kind m t .0) (markOf name kind) 0 name true false 0
   put-change kind k good dead place-found =
       record {
-        inside = ltb-true (putAt kind m t .0) (m .frames) place-found;
+        inside = ltb-true (putAt kind m t .0) (m .memory .frames) place-found;
         before = λ q h e. clash (isPageOf name (markAt t (place q))) e (dead-absent m t name dead q h);
         replaced = λ x e.
             clash (isPageOf x (markAt t (putAt kind m t))) e
@@ -78,7 +80,7 @@ module _ (m : Machine) (t : Tables) (l : Ledger) (s : Sound m t l) (name : ℕ) 
       (c : Call) (kind : ℕ) →
       PageKind kind false →
       (eqb kind 3 ≡ true → not (eqb kind movable) ≡ true) →
-      ((first : ℕ) → entry c first l ≡ withPage l name true false 0) → Kept c m t l (Page.putPage kind m name t)
+      ((first : ℕ) → roleOf c .entry first l ≡ withPage l name true false 0) → Kept c m t l (Page.putPage kind m name t)
   unfolding Page.putPage
   put-kept c kind k still e =
       checked-cases (Kept c m t l) m t _ _ refl (kept-refused c m t l s)

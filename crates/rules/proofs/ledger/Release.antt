@@ -15,16 +15,17 @@ use Rattle.frames.specs.Units.{place}
 use Rattle.frames.specs.Marks.{fieldOf, hasKind, isGranted, head}
 use Rattle.frames.specs.Areas.{isMultiple, endOf, perBit, bitOfFrame, bitsFor}
 use Rattle.frames.specs.Tables.{Tables, markAt, wordAt, fillPages, withBitmap}
-use Rattle.rules.specs.Record.{Machine, areaAt, placeOf, frameAt}
+use Rattle.rules.specs.declared.Call.the-variants as Call
+use Rattle.rules.specs.declared.Record.{Record}
+use Rattle.rules.specs.Record.{areaAt, placeOf, frameAt}
 use Rattle.rules.specs.Shape.{shapeRight}
 use Rattle.rules.specs.PageCalls.{pageAt}
 use Rattle.rules.specs.Outcomes.{outcome}
-use Rattle.rules.specs.DeviceCalls.{noArea, outsideArea, offBit, laterFrames, bitmapOf, freeRun}
+use Rattle.rules.specs.DeviceCalls.{isUnknown, outsideArea, offBit, laterFrames, bitmapOf, freeRun}
 use Rattle.rules.specs.DeviceCalls as Device
-use Rattle.rules.specs.Calls.{release}
 use Rattle.rules.proofs.Shapes.{shape-known}
 use Rattle.rules.specs.ledger.Ledger.{Grant, Ledger, grantOf, grantsAt, isAmong, without, withGrants}
-use Rattle.rules.specs.ledger.Invariant.{PlaceSound, GrantSound, BitsSound, Sound}
+use Rattle.rules.specs.steps.Invariant.{PlaceSound, GrantSound, BitsSound, Sound}
 use Rattle.rules.proofs.Checks.{checked-cases}
 use Rattle.rules.proofs.ledger.Marks.{isPage, page-of, granted-page}
 use Rattle.frames.proofs.FillFacts.{length-fill, getD-fill-in}
@@ -38,7 +39,7 @@ use Rattle.rules.proofs.ledger.Kept.{Kept, kept-refused, pin-stays, don
 use Rattle.rules.proofs.ledger.ReleasedGrant.{Releasable, OneGrant, one-grant}
 use Rattle.rules.proofs.ledger.ReleaseBits.{freed-bits}
 
-module _ (m : Machine) (t : Tables) (l : Ledger) (s : Sound m t l) (i : ℕ) (f : Frame) (count : ℕ) (ok : Releasable m t i f count) (its : OneGrant m t l f count) where
+module _ (m : Record) (t : Tables) (l : Ledger) (s : Sound m t l) (i : ℕ) (f : Frame) (count : ℕ) (ok : Releasable m t i f count) (its : OneGrant m t l f count) where
   abbrev r : ℕ
   r = placeOf m f .0
 
@@ -63,7 +64,7 @@ module _ (m : Machine) (t : Tables) (l : Ledger) (s : Sound m t l) (i : ℕ) (f 
               in-run-or-not q r count (λ a b. clash (isPage (markAt t (place q))) e (granted-page (markAt t (place q)) (its .granted q a b))) (λ o. run .words q o);
         }
 
-    freed-place : (q : ℕ) → q < m .frames → PlaceSound m l′ q (markAt t′ (place q)) (wordAt t′ (place q))
+    freed-place : (q : ℕ) → q < m .memory .frames → PlaceSound m l′ q (markAt t′ (place q)) (wordAt t′ (place q))
     freed-place q h =
         in-run-or-not q r count
         (λ a b.
@@ -85,7 +86,7 @@ module _ (m : Machine) (t : Tables) (l : Ledger) (s : Sound m t l) (i : ℕ) (f 
         let some = among-at (without (l .grants) g) h (frameAt m (place p)) e (low-takes h (frameAt m (place p)) (omega arith) (omega arith)) in
         omega arith))
 
-    freed-covered : (q : ℕ) → q < m .frames → rest-of q ≡ (if isGranted (markAt t′ (place q)) then 1 else 0)
+    freed-covered : (q : ℕ) → q < m .memory .frames → rest-of q ≡ (if isGranted (markAt t′ (place q)) then 1 else 0)
     freed-covered q h =
         in-run-or-not q r count (λ a b. its .alone q a b ∙ ap (λ (x : ℕ). if isGranted x then 1 else 0) (sym (emptied q a b)))
         (λ o.
@@ -94,10 +95,10 @@ module _ (m : Machine) (t : Tables) (l : Ledger) (s : Sound m t l) (i : ℕ) (f 
         let same : rest-of q ≡ grantsAt (l .grants) (frameAt m (place q)) = omega arith in
         same ∙ s .covered q h ∙ ap (λ (x : ℕ). if isGranted x then 1 else 0) (sym (run .marks q o)))
 
-    freed-total : howMany (λ p. isGranted (markAt t′ (place p))) 0 (m .frames) + (l .released + count) ≡ l .granted
+    freed-total : howMany (λ p. isGranted (markAt t′ (place p))) 0 (m .memory .frames) + (l .released + count) ≡ l .granted
     freed-total =
         let fewer =
-        many-run (λ p. isGranted (markAt t (place p))) (λ p. isGranted (markAt t′ (place p))) (m .frames) r count (its .inMemory) (its .granted)
+        many-run (λ p. isGranted (markAt t (place p))) (λ p. isGranted (markAt t′ (place p))) (m .memory .frames) r count (its .inMemory) (its .granted)
         (λ k a b. ap isGranted (emptied k a b)) (λ k h o. ap isGranted (sym (run .marks k o)))
         in
         let before = s .total in
@@ -122,19 +123,19 @@ module _ (m : Machine) (t : Tables) (l : Ledger) (s : Sound m t l) (i : ℕ) (f 
         (λ p h e k. pages .forth p h (page-of x (markAt t (place p)) e))
 
 -- the checks of an accepted release
-module _ (m : Machine) (t : Tables) (l : Ledger) (s : Sound m t l) (i : ℕ) (f : Frame) (count : ℕ) where
+module _ (m : Record) (t : Tables) (l : Ledger) (s : Sound m t l) (i : ℕ) (f : Frame) (count : ℕ) where
   releasable :
-      (noArea m i || eqb count 0 || outsideArea (areaAt m i) f count) ≡ false →
+      (isUnknown (m .memory) i || eqb count 0 || outsideArea (areaAt m i) f count) ≡ false →
       (offBit (areaAt m i) f || not (hasKind head (markAt t (placeOf m f)))) ≡ false →
       (not (eqb (fieldOf (markAt t (placeOf m f))) count) || not (laterFrames t (placeOf m f) count)) ≡ false → Releasable m t i f count
   releasable e₂ e₃ e₉ =
-      let known = or-left (noArea m i || eqb count 0) (outsideArea (areaAt m i) f count) e₂ in
-      let outside = or-right (noArea m i || eqb count 0) (outsideArea (areaAt m i) f count) e₂ in
-      let declared : i < m .declared = leb-false (m .declared) i (or-left (noArea m i) (eqb count 0) known) in
+      let known = or-left (isUnknown (m .memory) i || eqb count 0) (outsideArea (areaAt m i) f count) e₂ in
+      let outside = or-right (isUnknown (m .memory) i || eqb count 0) (outsideArea (areaAt m i) f count) e₂ in
+      let declared : i < m .memory .declared = leb-false (m .memory .declared) i (or-left (isUnknown (m .memory) i) (eqb count 0) known) in
       let area = area-facts m t (s .shape) i declared in
       let above = ltb-false (f .0) (areaAt m i .base .0) (or-left (ltb (f .0) (areaAt m i .base .0)) (ltb (endOf (areaAt m i)) (f .0 + count)) outside) in
       let below = ltb-false (endOf (areaAt m i)) (f .0 + count) (or-right (ltb (f .0) (areaAt m i .base .0)) (ltb (endOf (areaAt m i)) (f .0 + count)) outside) in
-      let nonzero = eqb-false count 0 (or-right (noArea m i) (eqb count 0) known) in
+      let nonzero = eqb-false count 0 (or-right (isUnknown (m .memory) i) (eqb count 0) known) in
       let low = area .low in
       let high = area .high in
       let mark = markAt t (placeOf m f) in
@@ -164,10 +165,10 @@ module _ (m : Machine) (t : Tables) (l : Ledger) (s : Sound m t l) (i : ℕ) (f 
   freed-run : RunChange t freedTables (placeOf m f .0) count
   freed-run = record { marks = fill-run t (placeOf m f .0) count 0 0 .marks; words = fill-run t (placeOf m f .0) count 0 0 .words }
 
-  freed-kept : Releasable m t i f count → Kept (release i f count) m t l (outcome m (done 0 0) freedTables)
+  freed-kept : Releasable m t i f count → Kept (Call.Release i f count) m t l (outcome m (done 0 0) freedTables)
   freed-kept ok =
       let its = one-grant m t l s i f count ok in
-      let inside : placeOf m f .0 + count ≤ m .frames = its .inMemory in
+      let inside : placeOf m f .0 + count ≤ m .memory .frames = its .inMemory in
       let shaped = shape-known m t (s .shape) in
       let emptied : (q : ℕ) → placeOf m f .0 ≤ q → q < placeOf m f .0 + count → markAt freedTables (place q) ≡ 0 =
       λ q a b. getD-fill-in 0 (t .marks) (placeOf m f .0) count q a b (rw (shaped .marks-length) (omega arith))
@@ -176,13 +177,13 @@ module _ (m : Machine) (t : Tables) (l : Ledger) (s : Sound m t l) (i : ℕ) (f 
       λ q a b. getD-fill-in 0 (t .words) (placeOf m f .0) count q a b (rw (shaped .words-length) (omega arith))
       in
       let bits = freed-bits m t l s i f count ok its freedTables freed-run emptied refl in
-      done-kept (release i f count) m t freedTables l
+      done-kept (Call.Release i f count) m t freedTables l
       (withGrants l (without (l .grants) (grantOf f count)) (l .deviceWord) (l .granted) (l .released + count)) 0 0 refl
       (freed m t l s i f count ok its freedTables freed-run emptied cleared freed-shape bits)
       (λ x a b. (b, freed-stays m t l s i f count ok its freedTables freed-run emptied cleared freed-shape bits x b))
 
-  pub release-kept : Kept (release i f count) m t l (Device.release m i f count t)
+  pub release-kept : Kept (Call.Release i f count) m t l (Device.release m i f count t)
   unfolding Device.release freeRun
   release-kept =
-      checked-cases (Kept (release i f count) m t l) m t _ _ refl (kept-refused (release i f count) m t l s)
+      checked-cases (Kept (Call.Release i f count) m t l) m t _ _ refl (kept-refused (Call.Release i f count) m t l s)
       (λ passed. freed-kept (releasable (passed .1 .0) (passed .1 .1 .0) (passed .1 .1 .1 .0)))

@@ -16,10 +16,11 @@ use Rattle.frames.specs.Units.{place, bit}
 use Rattle.frames.specs.Marks.{isGranted}
 use Rattle.frames.specs.Areas.{isMultiple, endOf, perBit, bitCount, bitOfFrame, bitsFor}
 use Rattle.frames.specs.Tables.{Tables, markAt}
-use Rattle.rules.specs.Record.{Machine, areaAt, placeOf, frameAt}
+use Rattle.rules.specs.declared.Record.{Record}
+use Rattle.rules.specs.Record.{areaAt, placeOf, frameAt}
 use Rattle.rules.specs.DeviceCalls.{placeOfBit, bitmapOf}
 use Rattle.rules.specs.ledger.Ledger.{Grant, Ledger, grantOf, isAmong, without}
-use Rattle.rules.specs.ledger.Invariant.{GrantInArea, hasGranted, BitsSound, Sound}
+use Rattle.rules.specs.steps.Invariant.{GrantInArea, hasGranted, BitsSound, Sound}
 use Rattle.rules.proofs.AreaRight.{AreaFacts, area-facts}
 use Rattle.rules.proofs.ledger.FrameRuns.{RunChange, in-run-or-not}
 use Rattle.rules.proofs.ledger.Grants.{takes-low, takes-high, low-takes, among-at, TakenBy, at-among, without-among}
@@ -28,7 +29,7 @@ use Rattle.rules.proofs.ledger.BitRuns.{run-fits, bit-inside, place-ins
 use Rattle.rules.proofs.ledger.BitsSound.{bits-run}
 use Rattle.rules.proofs.ledger.ReleasedGrant.{Releasable, OneGrant, granted-once}
 
-module _ (m : Machine) (t : Tables) (l : Ledger) (s : Sound m t l) (i : ℕ) (f : Frame) (count : ℕ) (ok : Releasable m t i f count) (its : OneGrant m t l f count) where
+module _ (m : Record) (t : Tables) (l : Ledger) (s : Sound m t l) (i : ℕ) (f : Frame) (count : ℕ) (ok : Releasable m t i f count) (its : OneGrant m t l f count) where
   abbrev r : ℕ
   r = placeOf m f .0
 
@@ -61,7 +62,7 @@ module _ (m : Machine) (t : Tables) (l : Ledger) (s : Sound m t l) (i : ℕ) (f 
   bitPlace k = placeOfBit m i (bit k) .0
 
   same-place : r ≡ bitPlace j
-  same-place = ap (λ (x : ℕ). x - m .base .0) on-bit
+  same-place = ap (λ (x : ℕ). x - m .memory .base .0) on-bit
 
   -- a frame of one of the run's bits is no other live grant's: such a grant would have the bit's first frame too, which is the run's
   module _ (k : ℕ) (after-first : j ≤ k) (before-last : k < j + bitsFor a count) (q : ℕ) (at-least : bitPlace k ≤ q) (at-most : q < bitPlace k + perBit a) where
@@ -70,8 +71,8 @@ module _ (m : Machine) (t : Tables) (l : Ledger) (s : Sound m t l) (i : ℕ) (f 
 
     shared :
         (h : Grant) →
-        h .first .0 ≤ m .base .0 + q →
-        m .base .0 + q < h .first .0 + h .count →
+        h .first .0 ≤ m .memory .base .0 + q →
+        m .memory .base .0 + q < h .first .0 + h .count →
         a .base .0 ≤ h .first .0 → isMultiple (h .first .0 - a .base .0) (perBit a) ≡ true → isAmong (without (l .grants) g) h ≡ true → ⊥
     shared h from to above multiple other =
         let low = area .low in
@@ -91,14 +92,14 @@ module _ (m : Machine) (t : Tables) (l : Ledger) (s : Sound m t l) (i : ℕ) (f 
     -- the other grant lies in the same area
     in-same-area :
         (h : Grant) →
-        h .first .0 ≤ m .base .0 + q → m .base .0 + q < h .first .0 + h .count → GrantInArea m h → isAmong (without (l .grants) g) h ≡ true → ⊥
+        h .first .0 ≤ m .memory .base .0 + q → m .memory .base .0 + q < h .first .0 + h .count → GrantInArea m h → isAmong (without (l .grants) g) h ≡ true → ⊥
     in-same-area h from to home other =
         let low = area .low in
         let frames = bit-frames in
         let home-low = home .low in
         let home-high = home .high in
         let same : home .area ≡ i =
-        sym (one-area m t (s .shape) i (home .area) (m .base .0 + q) (ok .declared) (home .declared) (omega arith) (omega arith) (omega arith) (omega arith))
+        sym (one-area m t (s .shape) i (home .area) (m .memory .base .0 + q) (ok .declared) (home .declared) (omega arith) (omega arith) (omega arith) (omega arith))
         in
         shared h from to (subst (λ (z : ℕ). areaAt m z .base .0 ≤ h .first .0) same home-low)
         (subst (λ (z : ℕ). isMultiple (h .first .0 - areaAt m z .base .0) (perBit (areaAt m z)) ≡ true) same (home .onBit)) other

@@ -7,9 +7,11 @@ use lib.Dec.{eqb}
 use lib.ListN.{length}
 use Rattle.search.proofs.Bools.{and-left, and-right}
 use Rattle.answer.specs.declared.Answer.{Answer}
-use Rattle.rules.specs.Record.{Machine}
-use Rattle.rules.specs.Calls.{Call, perform}
-use Rattle.rules.specs.ledger.Runs.{Lent, own, another, Item, item, onOwn, State, isRefused, lentAs, lentTo, outcomeIn, next, isBoot, mayPass, admitted, SameCall, same, otherWord, SameList, none, more, seen, seenAnswers}
+use Rattle.rules.specs.declared.Call.{Call}
+use Rattle.rules.specs.declared.Record.{Record}
+use Rattle.rules.specs.Calls.{perform}
+use Rattle.rules.specs.ledger.Roles.{roleOf}
+use Rattle.rules.specs.ledger.Lists.{Source, own, another, Item, itemWith, State, isRefused, lentAs, lentTo, outcomeIn, next, mayPass, admitted, SameCall, same, otherWord, SameList, none, more, seen, seenAnswers}
 use Rattle.rules.proofs.ledger.Items.{refused-item, item-cases}
 use Rattle.rules.proofs.ledger.OtherWords.{Alike, alike-words}
 use Rattle.rules.proofs.ledger.CallsAlike.{RefusedAlike, refused-alike, own-alike}
@@ -23,13 +25,13 @@ record ItemsAlike (hides : ℕ → Bool) (s s′ : State) (x y : Item) : Type 0 
   pub answer : seen hides (x .call) (outcomeIn s x .answer) ≡ seen hides (y .call) (outcomeIn s′ y .answer)
   pub states : StatesAlike hides (next s x) (next s′ y)
 
--- the item of the other run: another call that is lent the same
+-- the item of the other run: another call with the same text that is lent the same
 abbrev withCall : Item → Call → Item
-withCall x d = item d (x .marks) (x .words) (x .bitmap)
+withCall x d = itemWith d (x .text) (x .marks) (x .words) (x .bitmap)
 
 -- ---- an item that is refused: nothing changes in either run
 
-lent-length : (l : Lent) (was was′ : List ℕ) → length was′ ≡ length was → length (lentAs l was′) ≡ length (lentAs l was)
+lent-length : (l : Source) (was was′ : List ℕ) → length was′ ≡ length was → length (lentAs l was′) ≡ length (lentAs l was)
 lent-length own was was′ e = e
 lent-length (another table) was was′ e = refl
 
@@ -43,10 +45,10 @@ refused-items :
 refused-items hides s s′ x {d} alike call e =
     let y = withCall x d in
     let refused : RefusedAlike (outcomeIn s x) (outcomeIn s′ y) =
-    subst (λ (m : Machine). RefusedAlike (outcomeIn s x) (perform d m (lentTo y (s′ .own)))) (sym (alike .machine))
-    (alike-words hides (s .own) (s′ .own) (λ t. RefusedAlike (outcomeIn s x) (perform d (s .machine) (lentTo y t))) (alike .own)
+    subst (λ (m : Record). RefusedAlike (outcomeIn s x) (perform d (x .text) m (lentTo y (s′ .own)))) (sym (alike .machine))
+    (alike-words hides (s .own) (s′ .own) (λ t. RefusedAlike (outcomeIn s x) (perform d (x .text) (s .machine) (lentTo y t))) (alike .own)
     (λ words k.
-    refused-alike (s .machine) (lentTo x (s .own)) (lentAs (x .words) words) (lent-length (x .words) (s .own .words) words (k .lengths)) call))
+    refused-alike (s .machine) (lentTo x (s .own)) (lentAs (x .words) words) (lent-length (x .words) (s .own .words) words (k .lengths)) call (x .text)))
     in
     let same-answer = refused e in
     let refused′ : isRefused (outcomeIn s′ y) ≡ true = ap (λ (a : Answer). not (eqb (a .refusal) 0)) same-answer ∙ e in
@@ -58,11 +60,11 @@ refused-items hides s s′ x {d} alike call e =
 -- ---- a call on the runs' own tables
 
 own-items :
-    (hides : ℕ → Bool) (s s′ : State) (c d : Call) →
-    StatesAlike hides s s′ → SameCall hides c d → isBoot c ≡ false → ItemsAlike hides s s′ (onOwn c) (onOwn d)
+    (hides : ℕ → Bool) (s s′ : State) (c d : Call) (text : List ℕ) →
+    StatesAlike hides s s′ → SameCall hides c d → roleOf c .isBoot ≡ false → ItemsAlike hides s s′ (itemWith c text own own own) (itemWith d text own own own)
 unfolding next
-own-items hides s s′ c d alike call e =
-    let both = own-alike hides (s .machine) (s′ .machine) (s .own) (s′ .own) c d call e (alike .machine) (alike .own) in
+own-items hides s s′ c d text alike call e =
+    let both = own-alike hides (s .machine) (s′ .machine) (s .own) (s′ .own) c d text call e (alike .machine) (alike .own) in
     record { answer = both .answer; states = record { machine = both .machine; own = both .left } }
 
 -- ---- the lists
@@ -73,13 +75,13 @@ pub lists-agree :
     (s s′ : State) → StatesAlike hides s s′ → admitted s xs ≡ true → seenAnswers hides s xs ≡ seenAnswers hides s′ ys
 unfolding seenAnswers admitted
 lists-agree hides none s s′ alike ok = refl
-lists-agree hides (more {c = c} {d = d} {marks = marks} {words = words} {bitmap = bitmap} {xs = xs} {ys = ys} call rest) s s′ alike ok =
-    let x = item c marks words bitmap in
-    let y = item d marks words bitmap in
+lists-agree hides (more {c = c} {d = d} {text = text} {marks = marks} {words = words} {bitmap = bitmap} {xs = xs} {ys = ys} call rest) s s′ alike ok =
+    let x = itemWith c text marks words bitmap in
+    let y = itemWith d text marks words bitmap in
     let head = isRefused (outcomeIn s x) || mayPass x in
     let both =
     item-cases (λ z. SameCall hides (z .call) d → ItemsAlike hides s s′ z (withCall z d)) s x (and-left head (admitted (next s x) xs) ok)
-    (λ e k. refused-items hides s s′ x alike k e) (λ e k. own-items hides s s′ c d alike k e) call
+    (λ e k. refused-items hides s s′ x alike k e) (λ e k. own-items hides s s′ c d text alike k e) call
     in
     let tail : seenAnswers hides (next s x) xs ≡ seenAnswers hides (next s′ y) ys =
     lists-agree hides rest (next s x) (next s′ y) (both .states) (and-right head (admitted (next s x) xs) ok)

@@ -5,12 +5,12 @@ use lib.ListN.{length-set}
 use lib.Seq.{getD-set-same, getD-set-other}
 use Rattle.frames.specs.Units.{place}
 use Rattle.frames.specs.Tables.{Tables, setPage}
-use Rattle.rules.specs.Record.{Machine}
+use Rattle.rules.specs.declared.Record.{Record}
 use Rattle.rules.specs.promises.Changes.{OnlyPage}
 use Rattle.rules.proofs.Shapes.{Shape}
 
 pub set-only :
-    (m : Machine) (t : Tables) → Shape m t → (p mark word : ℕ) → p < m .frames → OnlyPage t (setPage t (place p) mark word) p mark word
+    (m : Record) (t : Tables) → Shape m t → (p mark word : ℕ) → p < m .memory .frames → OnlyPage t (setPage t (place p) mark word) p mark word
 set-only m t s p mark word h =
     record {
       mark-now = getD-set-same (t .marks) p mark 0 (rw (s .marks-length) h);

@@ -13,10 +13,11 @@ use Rattle.search.proofs.Bools.{below-or-not}
 use Rattle.frames.specs.Areas.{wordCount}
 use Rattle.frames.specs.Tables.{Tables}
 use Rattle.regions.specs.Amounts.{isPowerOfTwo}
-use Rattle.rules.specs.Record.{Machine}
+use Rattle.rules.specs.declared.Request.{Request}
+use Rattle.rules.specs.declared.Record.{Record}
 use Rattle.rules.specs.Outcomes.{Outcome}
 use Rattle.rules.specs.Shape.{wordsNeeded}
-use Rattle.rules.specs.Declare.{Request, badRequest, alignmentFor, baseFor, sizeFor, isFixed, startByte, endByte, areaFrom, areaFor, isVacant, isOutside, firstMultiple, multiples, highestFit, startFor, declareChecks, declare}
+use Rattle.rules.specs.Declare.{badRequest, alignmentFor, baseFor, sizeFor, isFixed, startByte, endByte, areaFrom, areaFor, isVacant, isOutside, firstMultiple, multiples, highestFit, startFor, declareChecks, declare}
 use Rattle.rules.specs.promises.Declares.{AtBase, RangeOutside, RangeTaken, NoPlace}
 use Rattle.rules.specs.promises.Numbers.{BadAmounts, ShortBitmap, declareRefusal}
 use Rattle.rules.proofs.Rounding.{Amounts, amounts}
@@ -56,7 +57,7 @@ bad-amounts r =
     (says-or (says-eqb (r .alignment) 0)
     (λ _. power-says (r .alignment) (below-or-not (2 ^ 48) (r .alignment) (λ h. absurd (none (inl (inr h)))) (λ h. h)))))))))
 
-module _ (m : Machine) (r : Request) (t : Tables) where
+module _ (m : Record) (r : Request) (t : Tables) where
   short-bitmap : Says (ltb (length (t .bitmap)) (wordsNeeded m + wordCount (areaFor m r t))) (ShortBitmap m r t)
   short-bitmap = says-ltb _ _
 
@@ -69,8 +70,8 @@ module _ (m : Machine) (r : Request) (t : Tables) where
   base-taken : Amounts m r → (RangeOutside m r → ⊥) → Says (not (isVacant m t (areaFrom m r (baseFor m r)))) (RangeTaken m r t)
   base-taken rounded inside =
       range-taken m r t (rounded .size-pages) (baseFor m r) (rounded .base-pages)
-      (below-or-not (baseFor m r) (m .base .0 * 4096) (λ h. absurd (inside (inl h))) (λ h. h))
-      (below-or-not ((m .base .0 + m .frames) * 4096) (baseFor m r + sizeFor m r) (λ h. absurd (inside (inr h))) (λ h. h))
+      (below-or-not (baseFor m r) (m .memory .base .0 * 4096) (λ h. absurd (inside (inl h))) (λ h. h))
+      (below-or-not ((m .memory .base .0 + m .memory .frames) * 4096) (baseFor m r + sizeFor m r) (λ h. absurd (inside (inr h))) (λ h. h))
 
   not-vacant :
       Amounts m r → (AtBase m r × RangeOutside m r → ⊥) →
@@ -93,16 +94,16 @@ module _ (m : Machine) (r : Request) (t : Tables) where
       }
 
 declare-numbers :
-    (m : Machine) (r : Request) (t : Tables) {o : Outcome} →
+    (m : Record) (r : Request) (t : Tables) {o : Outcome} →
     o .answer .refusal ≡ 0 → Ladder m t o (declareChecks m r t) (declareRefusal r m t)
 declare-numbers m r t done =
     rung (wrong-shape m t)
     (λ shape.
-    rung (says-leb 8 (m .declared))
+    rung (says-leb 8 (m .memory .declared))
     (λ room.
     rung (bad-amounts r)
     (λ good.
-    rung (says-ltb (m .order) (r .order))
+    rung (says-ltb (m .memory .«block_order») (r .«order_per_bit»))
     (λ order.
     rung (short-bitmap m r t)
     (λ words.
@@ -112,6 +113,6 @@ declare-numbers m r t done =
     rung (not-vacant m r t rounded inside)
     (λ _. rung (says-and (anywhere m r) (λ _. highest-says m r t rounded)) (λ _. foot done))))))))
 
-pub declare-exactly : (m : Machine) (r : Request) (t : Tables) (n : ℕ) → (declare m r t .answer .refusal ≡ n) ↔ declareRefusal r m t n
+pub declare-exactly : (m : Record) (r : Request) (t : Tables) (n : ℕ) → (declare m r t .answer .refusal ≡ n) ↔ declareRefusal r m t n
 unfolding declare
 declare-exactly m r t = exactly (declare-numbers m r t refl)

@@ -3,16 +3,16 @@ use Prim.Native.Nat.{ℕ, _+_, _*_, _/_, _≤_, _<_}
 use native.Mathlib.Omega.{arith}
 use mathlib.Core.Path.{_≡_, refl, sym, ap, subst, _∙_}
 use mathlib.Core.Bool.{Bool}
-use lib.ListN.{length-set}
-use lib.Seq.{getD-set-same, getD-set-other}
 use Rattle.search.specs.Choice.{if_then_else_}
 use Rattle.search.proofs.Bools.{below-or-not}
 use Rattle.frames.specs.declared.Area.{Area}
-use Rattle.frames.specs.Areas.{noArea, wordCount}
+use Rattle.frames.specs.Areas.{wordCount}
 use Rattle.frames.specs.Tables.{Tables}
+use Rattle.frames.proofs.AreaNumbers.{area-set-same, area-set-other, length-set-area}
 use Rattle.frames.proofs.FillFacts.{length-fill, getD-fill-in, getD-fill-below, getD-fill-above}
-use Rattle.rules.specs.Record.{Machine}
-use Rattle.rules.specs.Declare.{Request, alignmentFor, baseFor, areaFor, highestFit, startFor, declareChecks, declare}
+use Rattle.rules.specs.declared.Request.{Request}
+use Rattle.rules.specs.declared.Record.{Record}
+use Rattle.rules.specs.Declare.{alignmentFor, baseFor, areaFor, highestFit, startFor, declareChecks, declare}
 use Rattle.rules.specs.Limits.{pageBytes}
 use Rattle.rules.specs.Outcomes.{Outcome, Passed}
 use Rattle.rules.specs.Shape.{wordsNeeded}
@@ -28,7 +28,7 @@ use Rattle.rules.proofs.promises.PlaceTests.{free-ordinary}
 use Rattle.rules.proofs.promises.Rounded.{amounts-round}
 
 -- the area of a declare that passed its checks
-module _ (m : Machine) (r : Request) (t : Tables) (c : Passed (declareChecks m r t)) where
+module _ (m : Record) (r : Request) (t : Tables) (c : Passed (declareChecks m r t)) where
   abbrev A : ℕ
   A = alignmentFor m r
 
@@ -36,7 +36,7 @@ module _ (m : Machine) (r : Request) (t : Tables) (c : Passed (declareChecks m r
   a = areaFor m r t
 
   judged : Judged m r t
-  judged = record { shape = c .0; room = c .1 .0; amounts = c .1 .1 .0; order = c .1 .1 .1 .0; bitmap = c .1 .1 .1 .1 .0 }
+  judged = record { shape = c .0; room = c .1 .0; amounts = c .1 .1 .0; per-bit = c .1 .1 .1 .0; bitmap = c .1 .1 .1 .1 .0 }
 
   rounded : Amounts m r
   rounded = judged-amounts m r t judged
@@ -45,19 +45,19 @@ module _ (m : Machine) (r : Request) (t : Tables) (c : Passed (declareChecks m r
   stands = placed m r t (judged .amounts) (c .1 .1 .1 .1 .1 .0) (c .1 .1 .1 .1 .1 .1 .0) (c .1 .1 .1 .1 .1 .1 .1 .0)
 
   pub right : Declarable m r t
-  right = declarable m r t (judged .room) (judged .amounts) (judged .order) (judged .bitmap) stands
+  right = declarable m r t (judged .room) (judged .amounts) (judged .per-bit) (judged .bitmap) stands
 
   size : RoundedUp (r .size) A (a .count * 4096)
   size = subst (RoundedUp (r .size) A) (rounded .size-pages) (amounts-round m r .size)
 
   -- its first byte is where it begins
   first-byte : (at : ℕ) → at * A / pageBytes ≡ a .base .0 → a .base .0 * 4096 ≡ at * A
-  first-byte at e = ap (λ (x : ℕ). x * pageBytes) (sym e) ∙ sym (in-pages at A (m .order) (rounded .blocks))
+  first-byte at e = ap (λ (x : ℕ). x * pageBytes) (sym e) ∙ sym (in-pages at A (m .memory .«block_order») (rounded .blocks))
 
   first : Divides A (a .base .0 * 4096)
   first = (stands .at, first-byte (stands .at) (ap (λ (x : ℕ). x / pageBytes) (sym (stands .is))))
 
-  vacant : (p : ℕ) → a .base .0 ≤ m .base .0 + p → m .base .0 + p < a .base .0 + a .count → FreeOrdinary m t p
+  vacant : (p : ℕ) → a .base .0 ≤ m .memory .base .0 + p → m .memory .base .0 + p < a .base .0 + a .count → FreeOrdinary m t p
   vacant p low high =
       let begins = right .right .low in
       let ends = right .right .high in
@@ -85,7 +85,7 @@ accepted-declare m r t records =
       a,
       record {
         answer = refl;
-        order = refl;
+        per-bit = refl;
         size = size m r t c;
         some = d .right .some;
         first = first m r t c;
@@ -94,9 +94,9 @@ accepted-declare m r t records =
         vacant = vacant m r t c;
         at-base = begins m r t c;
         at-highest = highest m r t c;
-        new-area = getD-set-same (m .areas) (m .declared) a noArea (omega (arith, records, d .more));
-        other-areas = λ i other. getD-set-other (m .areas) (m .declared) i a noArea other;
-        as-many = length-set (m .areas) (m .declared) a;
+        new-area = area-set-same (m .areas) (m .memory .declared) a (omega (arith, records, d .more));
+        other-areas = λ i other. area-set-other (m .areas) (m .memory .declared) a i other;
+        as-many = length-set-area (m .areas) (m .memory .declared) a;
         one-more = refl;
         same-base = refl;
         same-frames = refl;

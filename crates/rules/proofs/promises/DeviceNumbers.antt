@@ -13,9 +13,10 @@ use Rattle.frames.specs.Units.{place, bit}
 use Rattle.frames.specs.Marks.{hasKind, fieldOf, isGranted, head, later}
 use Rattle.frames.specs.Areas.{bitCount, endOf}
 use Rattle.frames.specs.Tables.{Tables, markAt}
-use Rattle.rules.specs.Record.{Machine, areaAt, placeOf, endFrame}
-use Rattle.rules.specs.Limits.{mostAlignment}
-use Rattle.rules.specs.DeviceCalls.{noArea, isGrantable, chosen, placeOfBit, movers, targets, outsideArea, offBit, laterFrames, outsideMemory}
+use Rattle.rules.specs.declared.Record.{Record}
+use Rattle.rules.specs.Record.{areaAt, placeOf, endFrame}
+use Rattle.rules.specs.Limits.{mostAlignOrder}
+use Rattle.rules.specs.DeviceCalls.{isUnknown, isGrantable, chosen, placeOfBit, movers, targets, outsideArea, offBit, laterFrames, outsideMemory}
 use Rattle.rules.specs.promises.Changes.{kindAt, fieldAt}
 use Rattle.rules.specs.promises.Grants.{Grantable, freeBelow, moved, NoRun, NoTargets}
 use Rattle.rules.specs.promises.Numbers.{BadGrant, BadRelease, NoGrant, Disagrees, OutsideMemory, NotGranted}
@@ -23,60 +24,60 @@ use Rattle.rules.proofs.Says.{Says, says-is, says-false, says-ltb, says
 use Rattle.rules.proofs.promises.Grants.{grantable-says, in-range}
 
 -- ---- grant
-module _ (m : Machine) (t : Tables) (i count order : ℕ) where
-  pub bad-grant : Says (noArea m i || eqb count 0 || ltb mostAlignment order) (BadGrant m i count order)
-  bad-grant = says-right (says-or (says-or (says-leb (m .declared) i) (λ _. says-eqb count 0)) (λ _. says-ltb 16 order))
+module _ (m : Record) (t : Tables) (i count alignOrder : ℕ) where
+  pub bad-grant : Says (isUnknown (m .memory) i || eqb count 0 || ltb mostAlignOrder alignOrder) (BadGrant m i count alignOrder)
+  bad-grant = says-right (says-or (says-or (says-leb (m .memory .declared) i) (λ _. says-eqb count 0)) (λ _. says-ltb 16 alignOrder))
 
-  module _ (good : BadGrant m i count order → ⊥) where
+  module _ (good : BadGrant m i count alignOrder → ⊥) where
     abbrev bits : ℕ
     bits = bitCount (areaAt m i)
 
     abbrev grantable : ℕ → Bool
-    grantable j = isGrantable m t i count order (bit j)
+    grantable j = isGrantable m t i count alignOrder (bit j)
 
     some : 0 < count
     some = below-or-not 0 count (λ h. h) (λ h. absurd (good (inr (inl (omega arith)))))
 
-    pub no-run : Says (leb bits (chosen m t i count order .0)) (NoRun m t i count order)
+    pub no-run : Says (leb bits (chosen m t i count alignOrder .0)) (NoRun m t i count alignOrder)
     unfolding chosen
-    no-run = says-missed grantable bits (Grantable m t i count order) (λ j _. grantable-says m t i count order j) (in-range m t i count order some)
+    no-run = says-missed grantable bits (Grantable m t i count alignOrder) (λ j _. grantable-says m t i count alignOrder j) (in-range m t i count alignOrder some)
 
     pub no-targets :
-        (NoRun m t i count order → ⊥) →
-        Says (ltb (targets m t) (movers t (placeOfBit m i (chosen m t i count order)) count)) (NoTargets m t i count order)
+        (NoRun m t i count alignOrder → ⊥) →
+        Says (ltb (targets m t) (movers t (placeOfBit m i (chosen m t i count alignOrder)) count)) (NoTargets m t i count alignOrder)
     unfolding chosen movers targets
     no-targets run =
         says-is (λ w. (w .0, record { grantable = w .1 .0; lowest = w .1 .1 }, w .2)) (λ w. (w .0, (w .1 .grantable, w .1 .lowest), w .2))
-        (says-lowest grantable bits (Grantable m t i count order) (λ j _. grantable-says m t i count order j) (in-range m t i count order some)
-        (λ j. ltb (freeBelow m t (m .frames)) (moved m t i count order j))
-        (λ j. freeBelow m t (m .frames) < moved m t i count order j) (λ j. says-ltb (freeBelow m t (m .frames)) (moved m t i count order j))
+        (says-lowest grantable bits (Grantable m t i count alignOrder) (λ j _. grantable-says m t i count alignOrder j) (in-range m t i count alignOrder some)
+        (λ j. ltb (freeBelow m t (m .memory .frames)) (moved m t i count alignOrder j))
+        (λ j. freeBelow m t (m .memory .frames) < moved m t i count alignOrder j) (λ j. says-ltb (freeBelow m t (m .memory .frames)) (moved m t i count alignOrder j))
         (leb-false bits (lowest grantable bits) (says-false no-run run)))
 
 -- ---- release
-module _ (m : Machine) (t : Tables) (i : ℕ) (f : Frame) (count : ℕ) where
-  pub bad-release : Says (noArea m i || eqb count 0 || outsideArea (areaAt m i) f count) (BadRelease m i (f .0) count)
+module _ (m : Record) (t : Tables) (i : ℕ) (f : Frame) (count : ℕ) where
+  pub bad-release : Says (isUnknown (m .memory) i || eqb count 0 || outsideArea (areaAt m i) f count) (BadRelease m i (f .0) count)
   bad-release =
       says-right
-      (says-or (says-or (says-leb (m .declared) i) (λ _. says-eqb count 0))
+      (says-or (says-or (says-leb (m .memory .declared) i) (λ _. says-eqb count 0))
       (λ _. says-or (says-ltb (f .0) (areaAt m i .base .0)) (λ _. says-ltb (endOf (areaAt m i)) (f .0 + count))))
 
   pub no-grant : Says (offBit (areaAt m i) f || not (hasKind head (markAt t (placeOf m f)))) (NoGrant m t i (f .0))
-  no-grant = says-or (says-not (says-eqb _ 0)) (λ _. says-not (says-eqb (kindAt t (f .0 - m .base .0)) 4))
+  no-grant = says-or (says-not (says-eqb _ 0)) (λ _. says-not (says-eqb (kindAt t (f .0 - m .memory .base .0)) 4))
 
   pub disagrees :
       Says (not (eqb (fieldOf (markAt t (placeOf m f))) count) || not (laterFrames t (placeOf m f) count)) (Disagrees m t (f .0) count)
   unfolding laterFrames
   disagrees =
-      let p = f .0 - m .base .0 in
+      let p = f .0 - m .memory .base .0 in
       says-or (says-not (says-eqb (fieldAt t p) count))
       (λ _.
       says-is (λ w. (w .0, w .1, omega (arith, w .1, w .2), w .3)) (λ w. (w .0, w .1, omega (arith, w .1, w .2), w .3))
       (says-not-every (λ q. hasKind later (markAt t (place q))) (λ q. kindAt t q ≡ 5) (suc p) (count - 1) (λ q. says-eqb (kindAt t q) 5)))
 
 -- ---- device store, device read
-module _ (m : Machine) (t : Tables) (f : Frame) where
-  pub outside-memory : Says (outsideMemory m f) (OutsideMemory m (f .0))
-  outside-memory = says-or (says-ltb (f .0) (m .base .0)) (λ _. says-leb (endFrame m) (f .0))
+module _ (m : Record) (t : Tables) (f : Frame) where
+  pub outside-memory : Says (outsideMemory (m .memory) f) (OutsideMemory m (f .0))
+  outside-memory = says-or (says-ltb (f .0) (m .memory .base .0)) (λ _. says-leb (endFrame m) (f .0))
 
   pub not-granted : Says (not (isGranted (markAt t (placeOf m f)))) (NotGranted m t (f .0))
-  not-granted = says-not (says-or (says-eqb (kindAt t (f .0 - m .base .0)) 4) (λ _. says-eqb (kindAt t (f .0 - m .base .0)) 5))
+  not-granted = says-not (says-or (says-eqb (kindAt t (f .0 - m .memory .base .0)) 4) (λ _. says-eqb (kindAt t (f .0 - m .memory .base .0)) 5))

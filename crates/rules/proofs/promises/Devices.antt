@@ -10,7 +10,8 @@ use Rattle.frames.specs.declared.Frame.{Frame}
 use Rattle.frames.specs.Units.{place}
 use Rattle.frames.specs.Marks.{isGranted, head, later}
 use Rattle.frames.specs.Tables.{Tables, markAt, wordAt}
-use Rattle.rules.specs.Record.{Machine, placeOf, endFrame}
+use Rattle.rules.specs.declared.Record.{Record}
+use Rattle.rules.specs.Record.{placeOf, endFrame}
 use Rattle.rules.specs.Shape.{shapeRight}
 use Rattle.rules.specs.Outcomes.{outcome, Passed}
 use Rattle.rules.specs.DeviceCalls.{deviceChecks, deviceStore, deviceRead}
@@ -21,15 +22,15 @@ use Rattle.rules.proofs.Says.{says-eqb, says-or}
 use Rattle.rules.proofs.Shapes.{shape-known}
 use Rattle.rules.proofs.promises.Changes.{set-only}
 
-module _ (m : Machine) (f : Frame) (t : Tables) (passed : Passed (deviceChecks m f t)) where
+module _ (m : Record) (f : Frame) (t : Tables) (passed : Passed (deviceChecks m f t)) where
   abbrev p : ℕ
   p = placeOf m f .0
 
   granted-at : GrantedAt m t f p
   granted-at =
-      let below = ltb (f .0) (m .base .0) in
+      let below = ltb (f .0) (m .memory .base .0) in
       let beyond = leb (endFrame m) (f .0) in
-      let low = ltb-false (f .0) (m .base .0) (or-left below beyond (passed .1 .0)) in
+      let low = ltb-false (f .0) (m .memory .base .0) (or-left below beyond (passed .1 .0)) in
       let high = leb-false (endFrame m) (f .0) (or-right below beyond (passed .1 .0)) in
       record {
         at = omega arith;

@@ -16,27 +16,28 @@ use Rattle.frames.specs.Units.{place, bit}
 use Rattle.frames.specs.Marks.{canLeave, free, movable}
 use Rattle.frames.specs.Areas.{perBit, bitCount, bitsFor, frameOfBit}
 use Rattle.frames.specs.Tables.{Tables, markAt}
-use Rattle.rules.specs.Record.{Machine, areaAt}
-use Rattle.rules.specs.Limits.{mostAlignment}
+use Rattle.rules.specs.declared.Record.{Record}
+use Rattle.rules.specs.Record.{areaAt}
+use Rattle.rules.specs.Limits.{mostAlignOrder}
 use Rattle.rules.specs.Outcomes.{Outcome, here, there}
-use Rattle.rules.specs.DeviceCalls.{noArea, bitmapOf, placeOfBit, isCandidate, isGrantable, chosen, movers, targets, grant}
+use Rattle.rules.specs.DeviceCalls.{isUnknown, bitmapOf, placeOfBit, isCandidate, isGrantable, chosen, movers, targets, grant}
 use Rattle.rules.proofs.Checks.{checked-first, checked-passed}
 use Rattle.rules.proofs.Divisions.{ceiling-some}
 use Rattle.rules.proofs.Says.{Says, says-is, says-true, says-leb, says-eqb, says-and, says-or, says-every}
 use Rattle.rules.specs.promises.Changes.{kindAt}
 use Rattle.rules.specs.promises.Grants.{Grantable, FirstGrantable, freeBelow, Asked, moved, GrantAnswers, GrantIsFirstFit}
 
-module _ (m : Machine) (t : Tables) (i count order : ℕ) where
+module _ (m : Record) (t : Tables) (i count alignOrder : ℕ) where
   abbrev test : ℕ → Bool
-  test j = isGrantable m t i count order (bit j)
+  test j = isGrantable m t i count alignOrder (bit j)
 
   abbrev bits : ℕ
   bits = bitCount (areaAt m i)
 
   abbrev first : ℕ
-  first = chosen m t i count order .0
+  first = chosen m t i count alignOrder .0
 
-  pub grantable-says : (j : ℕ) → Says (test j) (Grantable m t i count order j)
+  pub grantable-says : (j : ℕ) → Says (test j) (Grantable m t i count alignOrder j)
   unfolding isGrantable isCandidate
   grantable-says j =
       says-is
@@ -50,51 +51,51 @@ module _ (m : Machine) (t : Tables) (i count order : ℕ) where
       (λ q. says-or (says-eqb (kindAt t q) free) (λ _. says-eqb (kindAt t q) movable))))
 
   -- a run of some frames has a bit
-  pub in-range : 0 < count → (j : ℕ) → Grantable m t i count order j → j < bits
-  in-range some j g = omega (arith, g .candidate .inside, ceiling-some count (perBit (areaAt m i)) (pow-pos (areaAt m i .order)) some)
+  pub in-range : 0 < count → (j : ℕ) → Grantable m t i count alignOrder j → j < bits
+  in-range some j g = omega (arith, g .candidate .inside, ceiling-some count (perBit (areaAt m i)) (pow-pos (areaAt m i .«order_per_bit»)) some)
 
   -- none before the one chosen is grantable, and it is, where there is one
-  before-first : (k : ℕ) → k < first → Grantable m t i count order k → ⊥
+  before-first : (k : ℕ) → k < first → Grantable m t i count alignOrder k → ⊥
   unfolding chosen
   before-first k l g = clash (test k) (grantable-says k .test g) (found-low test bits k l)
 
-  pub first-known : first < bits → FirstGrantable m t i count order first
+  pub first-known : first < bits → FirstGrantable m t i count alignOrder first
   unfolding chosen
   first-known h = record { grantable = grantable-says first .fact (found-passes test bits h); lowest = before-first }
 
-  module _ (asked : Asked m t i count order) where
+  module _ (asked : Asked m t i count alignOrder) where
     count-pos : 0 < count
     count-pos =
         below-or-not 0 count (λ h. h)
-        (λ h. absurd (eqb-false count 0 (or-right (noArea m i) (eqb count 0) (or-left (noArea m i || eqb count 0) (ltb mostAlignment order) (asked .arguments))) (omega arith)))
+        (λ h. absurd (eqb-false count 0 (or-right (isUnknown (m .memory) i) (eqb count 0) (or-left (isUnknown (m .memory) i || eqb count 0) (ltb mostAlignOrder alignOrder) (asked .arguments))) (omega arith)))
 
     -- the one found is the only first
-    first-is : (j : ℕ) → FirstGrantable m t i count order j → first ≡ j
+    first-is : (j : ℕ) → FirstGrantable m t i count alignOrder j → first ≡ j
     first-is j f =
         below-or-not first j
         (λ h. absurd (f .lowest first h (first-known (omega (arith, in-range count-pos j (f .grantable))) .grantable)))
         (λ h. below-or-not j first (λ l. absurd (before-first j l (f .grantable))) (λ l. omega arith))
 
-    first-in-range : (j : ℕ) → FirstGrantable m t i count order j → first < bits
+    first-in-range : (j : ℕ) → FirstGrantable m t i count alignOrder j → first < bits
     first-in-range j f = omega (arith, first-is j f, in-range count-pos j (f .grantable))
 
-    none-found : ((j : ℕ) → Grantable m t i count order j → ⊥) → bits ≤ first
+    none-found : ((j : ℕ) → Grantable m t i count alignOrder j → ⊥) → bits ≤ first
     none-found none = below-or-not first bits (λ h. absurd (none first (first-known h .grantable))) (λ h. h)
 
     abbrev answer : Answer
-    answer = grant m i count order t .answer
+    answer = grant m i count alignOrder t .answer
 
     answer-7 : bits ≤ first → answer ≡ refused 7
     unfolding grant
     answer-7 h = ap (λ (o : Outcome). o .answer) (checked-first m t _ (there (asked .shape) (there (asked .arguments) (here (le-leb bits first h)))))
 
-    answer-8 : first < bits → freeBelow m t (m .frames) < moved m t i count order first → answer ≡ refused 8
+    answer-8 : first < bits → freeBelow m t (m .memory .frames) < moved m t i count alignOrder first → answer ≡ refused 8
     unfolding grant movers targets
     answer-8 h l =
         ap (λ (o : Outcome). o .answer)
         (checked-first m t _ (there (asked .shape) (there (asked .arguments) (there (lt-leb bits first h) (here (lt-ltb _ _ l))))))
 
-    answer-done : first < bits → moved m t i count order first ≤ freeBelow m t (m .frames) → answer ≡ done (frameOfBit (areaAt m i) (bit first) .0) (moved m t i count order first)
+    answer-done : first < bits → moved m t i count alignOrder first ≤ freeBelow m t (m .memory .frames) → answer ≡ done (frameOfBit (areaAt m i) (bit first) .0) (moved m t i count alignOrder first)
     unfolding grant movers targets
     answer-done h l =
         ap (λ (o : Outcome). o .answer)
@@ -102,11 +103,11 @@ module _ (m : Machine) (t : Tables) (i count order : ℕ) where
 
     -- which of the three it is
     by-answer : {P : Type 0} → (bits ≤ first → answer ≡ refused 7 → P) →
-        (first < bits → freeBelow m t (m .frames) < moved m t i count order first → answer ≡ refused 8 → P) →
-        (first < bits → moved m t i count order first ≤ freeBelow m t (m .frames) → answer ≡ done (frameOfBit (areaAt m i) (bit first) .0) (moved m t i count order first) → P) → P
+        (first < bits → freeBelow m t (m .memory .frames) < moved m t i count alignOrder first → answer ≡ refused 8 → P) →
+        (first < bits → moved m t i count alignOrder first ≤ freeBelow m t (m .memory .frames) → answer ≡ done (frameOfBit (areaAt m i) (bit first) .0) (moved m t i count alignOrder first) → P) → P
     by-answer seven eight accepted =
         below-or-not first bits
-        (λ h. below-or-not (freeBelow m t (m .frames)) (moved m t i count order first) (λ l. eight h l (answer-8 h l)) (λ l. accepted h l (answer-done h l)))
+        (λ h. below-or-not (freeBelow m t (m .memory .frames)) (moved m t i count alignOrder first) (λ l. eight h l (answer-8 h l)) (λ l. accepted h l (answer-done h l)))
         (λ h. seven h (answer-7 h))
 
     -- a refusal that is another number
@@ -118,39 +119,39 @@ module _ (m : Machine) (t : Tables) (i count order : ℕ) where
 
     abbrev Accepted : ℕ → ℕ → Type 0
     Accepted f n =
-        (j : ℕ) × FirstGrantable m t i count order j × (frameOfBit (areaAt m i) (bit j) .0 ≡ f) × (moved m t i count order j ≡ n) × (n ≤ freeBelow m t (m .frames))
+        (j : ℕ) × FirstGrantable m t i count alignOrder j × (frameOfBit (areaAt m i) (bit j) .0 ≡ f) × (moved m t i count alignOrder j ≡ n) × (n ≤ freeBelow m t (m .memory .frames))
 
     accepted-known : (f n : ℕ) → answer ≡ done f n → Accepted f n
     accepted-known f n e =
         by-answer (λ h r. not-both r e (λ q. absurd (omega arith))) (λ h l r. not-both r e (λ q. absurd (omega arith)))
         (λ h l r.
         let frames : frameOfBit (areaAt m i) (bit first) .0 ≡ f = ap (λ (x : Answer). x .first) (sym r ∙ e) in
-        let pages : moved m t i count order first ≡ n = ap (λ (x : Answer). x .second) (sym r ∙ e) in
+        let pages : moved m t i count alignOrder first ≡ n = ap (λ (x : Answer). x .second) (sym r ∙ e) in
         (first, first-known h, frames, pages, omega arith))
 
     accepted-test : (f n : ℕ) → Accepted f n → answer ≡ done f n
     accepted-test f n w =
         let e = first-is (w .0) (w .1) in
-        let same : moved m t i count order first ≡ moved m t i count order (w .0) = ap (moved m t i count order) e in
+        let same : moved m t i count alignOrder first ≡ moved m t i count alignOrder (w .0) = ap (moved m t i count alignOrder) e in
         answer-done (first-in-range (w .0) (w .1)) (omega (arith, w .3, w .4)) ∙
         ap₂ done (ap (λ (k : ℕ). frameOfBit (areaAt m i) (bit k) .0) e ∙ w .2) (same ∙ w .3)
 
-    no-run-known : answer .refusal ≡ 7 → (j : ℕ) → Grantable m t i count order j → ⊥
+    no-run-known : answer .refusal ≡ 7 → (j : ℕ) → Grantable m t i count alignOrder j → ⊥
     no-run-known e j g =
         by-answer (λ h r. before-first j (omega (arith, in-range count-pos j g)) g)
         (λ h l r. other-refusal 7 r e (λ q. absurd (omega arith))) (λ h l r. other-refusal 7 r e (λ q. absurd (omega arith)))
 
-    no-target-known : answer .refusal ≡ 8 → (j : ℕ) × FirstGrantable m t i count order j × (freeBelow m t (m .frames) < moved m t i count order j)
+    no-target-known : answer .refusal ≡ 8 → (j : ℕ) × FirstGrantable m t i count alignOrder j × (freeBelow m t (m .memory .frames) < moved m t i count alignOrder j)
     no-target-known e =
         by-answer (λ h r. other-refusal 8 r e (λ q. absurd (omega arith))) (λ h l r. (first, first-known h, l))
         (λ h l r. other-refusal 8 r e (λ q. absurd (omega arith)))
 
-    no-target-test : (j : ℕ) × FirstGrantable m t i count order j × (freeBelow m t (m .frames) < moved m t i count order j) → answer .refusal ≡ 8
+    no-target-test : (j : ℕ) × FirstGrantable m t i count alignOrder j × (freeBelow m t (m .memory .frames) < moved m t i count alignOrder j) → answer .refusal ≡ 8
     no-target-test w =
-        let same : moved m t i count order first ≡ moved m t i count order (w .0) = ap (moved m t i count order) (first-is (w .0) (w .1)) in
+        let same : moved m t i count alignOrder first ≡ moved m t i count alignOrder (w .0) = ap (moved m t i count alignOrder) (first-is (w .0) (w .1)) in
         ap (λ (x : Answer). x .refusal) (answer-8 (first-in-range (w .0) (w .1)) (omega (arith, w .2)))
 
-    pub answers : GrantAnswers m t i count order
+    pub answers : GrantAnswers m t i count alignOrder
     answers =
         record {
           accepted = λ f n. (accepted-known f n, accepted-test f n);
@@ -159,4 +160,4 @@ module _ (m : Machine) (t : Tables) (i count order : ℕ) where
         }
 
 pub grant-is-first-fit : GrantIsFirstFit
-grant-is-first-fit m t i count order asked = answers m t i count order asked
+grant-is-first-fit m t i count alignOrder asked = answers m t i count alignOrder asked

@@ -12,8 +12,9 @@ use Rattle.search.proofs.Highest.{Greatest, highest-greatest}
 use Rattle.answer.specs.declared.Answer.{Answer}
 use Rattle.answer.specs.Answers.{done, refused}
 use Rattle.frames.specs.Tables.{Tables}
-use Rattle.rules.specs.Record.{Machine}
-use Rattle.rules.specs.Declare.{Request, alignmentFor, baseFor, sizeFor, limitFor, isFixed, startByte, areaFrom, isVacant, firstMultiple, multiples, fitsAt, highestFit, startFor, declare}
+use Rattle.rules.specs.declared.Request.{Request}
+use Rattle.rules.specs.declared.Record.{Record}
+use Rattle.rules.specs.Declare.{alignmentFor, baseFor, sizeFor, limitFor, isFixed, startByte, areaFrom, isVacant, firstMultiple, multiples, fitsAt, highestFit, startFor, declare}
 use Rattle.rules.specs.Limits.{pageBytes}
 use Rattle.rules.specs.Outcomes.{Outcome, here, there}
 use Rattle.rules.proofs.Checks.{checked-first, checked-passed}
@@ -24,7 +25,7 @@ use Rattle.rules.specs.promises.Pages.{FreeOrdinary}
 use Rattle.rules.specs.promises.Declares.{InRange, Allowed, Highest, Judged, DeclareTakesHighest}
 use Rattle.rules.proofs.promises.Places.{judged-amounts, not-at-base, range-vacant}
 
-module _ (m : Machine) (r : Request) (t : Tables) (rounded : Amounts m r) where
+module _ (m : Record) (r : Request) (t : Tables) (rounded : Amounts m r) where
   abbrev A : ℕ
   A = alignmentFor m r
 
@@ -38,10 +39,10 @@ module _ (m : Machine) (r : Request) (t : Tables) (rounded : Amounts m r) where
   greatest = highest-greatest (fitsAt m r t) (firstMultiple m r) (multiples m r)
 
   pages : (c : ℕ) → c * A ≡ c * A / pageBytes * pageBytes
-  pages c = in-pages c A (m .order) (rounded .blocks)
+  pages c = in-pages c A (m .memory .«block_order») (rounded .blocks)
 
   vacant-says :
-      (c : ℕ) → m .base .0 * 4096 ≤ c * A → c * A + sizeFor m r ≤ limitFor m r →
+      (c : ℕ) → m .memory .base .0 * 4096 ≤ c * A → c * A + sizeFor m r ≤ limitFor m r →
       Says (isVacant m t (areaFrom m r (c * A))) ((p : ℕ) → InRange m r (c * A) p → FreeOrdinary m t p)
   vacant-says c low high = range-vacant m r t (rounded .size-pages) (c * A) (pages c) low (omega (arith, limit-high m r))
 
@@ -112,7 +113,7 @@ module _ (m : Machine) (r : Request) (t : Tables) (rounded : Amounts m r) where
         (there (judged .shape)
         (there (judged .room)
         (there (judged .amounts)
-        (there (judged .order)
+        (there (judged .per-bit)
         (there (judged .bitmap)
         (there (not-fixed _) (there (not-fixed _) (here (and-both _ _ (ap not anywhere) (le-leb last found h)))))))))))
 
@@ -126,7 +127,7 @@ module _ (m : Machine) (r : Request) (t : Tables) (rounded : Amounts m r) where
             judged .room,
             (
               judged .amounts,
-              (judged .order, (judged .bitmap, (not-fixed _, (not-fixed _, (and-right-false (not (isFixed m r)) _ (lt-leb last found h), tt))))),
+              (judged .per-bit, (judged .bitmap, (not-fixed _, (not-fixed _, (and-right-false (not (isFixed m r)) _ (lt-leb last found h), tt))))),
             ),
           ),
         )) ∙

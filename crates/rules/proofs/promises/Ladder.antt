@@ -9,24 +9,24 @@ use mathlib.Core.Bool.{Bool}
 use mathlib.Core.List.{List, [], _∷_}
 use Rattle.search.proofs.Bools.{by-cases}
 use Rattle.frames.specs.Tables.{Tables}
-use Rattle.rules.specs.Record.{Machine}
+use Rattle.rules.specs.declared.Record.{Record}
 use Rattle.rules.specs.Outcomes.{Outcome, Check, _⇒_, checked}
 use Rattle.rules.specs.promises.Numbers.{_answers_otherwise_, accepted}
 use Rattle.rules.proofs.Checks.{checked-stop, checked-pass, checked-end}
 use Rattle.rules.proofs.Says.{Says, says-no}
 
 -- the refusal that a list of checks comes to
-abbrev pub refusalBy : Machine → Tables → Outcome → List Check → ℕ
+abbrev pub refusalBy : Record → Tables → Outcome → List Check → ℕ
 refusalBy m t o cs = checked m t cs o .answer .refusal
 
-pub record Ladder (m : Machine) (t : Tables) (o : Outcome) (cs : List Check) (rule : ℕ → Type 0) : Type 0 where
+pub record Ladder (m : Record) (t : Tables) (o : Outcome) (cs : List Check) (rule : ℕ → Type 0) : Type 0 where
   pub known : (n : ℕ) → refusalBy m t o cs ≡ n → rule n
   pub given : (n : ℕ) → rule n → refusalBy m t o cs ≡ n
 
 refusal-is : {x y : Outcome} → x ≡ y → x .answer .refusal ≡ y .answer .refusal
 refusal-is e = ap (λ (x : Outcome). x .answer .refusal) e
 
-module _ {m : Machine} {t : Tables} {o : Outcome} where
+module _ {m : Record} {t : Tables} {o : Outcome} where
   pub rung :
       {b : Bool} {P : Type 0} {number : ℕ} {cs : List Check} {later : ℕ → Type 0} →
       Says b P → ((P → ⊥) → Ladder m t o cs later) → Ladder m t o (b ⇒ number ∷ cs) (P answers number otherwise later)

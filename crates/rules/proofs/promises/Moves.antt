@@ -15,7 +15,8 @@ use Rattle.search.proofs.Counts.{many-none, many-pass, many-fail, many-split, m
 use Rattle.frames.specs.Units.{place}
 use Rattle.frames.specs.Marks.{kindOf, hasKind, free, movable}
 use Rattle.frames.specs.Tables.{Tables, markAt, wordAt}
-use Rattle.rules.specs.Record.{Machine, isOrdinary}
+use Rattle.rules.specs.declared.Record.{Record}
+use Rattle.rules.specs.Record.{isOrdinary}
 use Rattle.rules.specs.PageCalls.{isFree, freeOrdinary}
 use Rattle.rules.specs.DeviceCalls.{movePage, moveOut}
 use Rattle.rules.specs.promises.Grants.{freeBelow}
@@ -23,11 +24,11 @@ use Rattle.rules.specs.promises.Moves.{moversBefore, MovesTo}
 use Rattle.rules.specs.promises.Changes.{Same}
 
 -- the tables have a mark and a word for each frame
-pub record Sized (m : Machine) (t : Tables) : Type 0 where
-  pub marks : length (t .marks) ≡ m .frames
-  pub words : length (t .words) ≡ m .frames
+pub record Sized (m : Record) (t : Tables) : Type 0 where
+  pub marks : length (t .marks) ≡ m .memory .frames
+  pub words : length (t .words) ≡ m .memory .frames
 
-module _ (m : Machine) where
+module _ (m : Record) where
   abbrev isMover : Tables → ℕ → Bool
   isMover t q = hasKind movable (markAt t (place q))
 
@@ -35,14 +36,14 @@ module _ (m : Machine) where
   isTarget t q = freeOrdinary m t (place q)
 
   abbrev lowestTarget : Tables → ℕ
-  lowestTarget t = lowest (isTarget t) (m .frames)
+  lowestTarget t = lowest (isTarget t) (m .memory .frames)
 
   -- the d frames from p on are in areas, and their movers have somewhere to go
   pub record Ready (t : Tables) (p d : ℕ) : Type 0 where
     pub sized : Sized m t
-    pub inside : p + d ≤ m .frames
+    pub inside : p + d ≤ m .memory .frames
     pub in-area : (q : ℕ) → p ≤ q → q < p + d → isOrdinary m (place q) ≡ false
-    pub room : howMany (isMover t) p d ≤ howMany (isTarget t) 0 (m .frames)
+    pub room : howMany (isMover t) p d ≤ howMany (isTarget t) 0 (m .memory .frames)
 
   pub record Moved (t t′ : Tables) (p d : ℕ) : Type 0 where
     pub sized : Sized m t′
@@ -74,16 +75,16 @@ module _ (m : Machine) where
     movers-here : howMany (isMover t) p (suc d) ≡ suc (howMany (isMover t) (suc p) d)
     movers-here = many-pass (isMover t) p d mover
 
-    some-target : r₀ < m .frames
+    some-target : r₀ < m .memory .frames
     some-target =
-        below-or-not r₀ (m .frames) (λ h. h)
+        below-or-not r₀ (m .memory .frames) (λ h. h)
         (λ h.
         absurd
-        (let none : howMany (isTarget t) 0 (m .frames) ≡ 0 = many-zero (isTarget t) 0 (m .frames) (λ k a b. found-low (isTarget t) (m .frames) k (omega arith)) in
+        (let none : howMany (isTarget t) 0 (m .memory .frames) ≡ 0 = many-zero (isTarget t) 0 (m .memory .frames) (λ k a b. found-low (isTarget t) (m .memory .frames) k (omega arith)) in
         omega (arith, ready .room, movers-here)))
 
     r₀-target : isTarget t r₀ ≡ true
-    r₀-target = found-passes (isTarget t) (m .frames) some-target
+    r₀-target = found-passes (isTarget t) (m .memory .frames) some-target
 
     p-in-area : isOrdinary m (place p) ≡ false
     p-in-area = ready .in-area p (omega arith) (omega arith)
@@ -141,7 +142,7 @@ module _ (m : Machine) where
 
     -- below r₀ there was none; above it there is one less
     below-none : (x : ℕ) → x ≤ r₀ → freeBelow m t x ≡ 0
-    below-none x h = many-zero (isTarget t) 0 x (λ k a b. found-low (isTarget t) (m .frames) k (omega arith))
+    below-none x h = many-zero (isTarget t) 0 x (λ k a b. found-low (isTarget t) (m .memory .frames) k (omega arith))
 
     above-one : (x : ℕ) → r₀ < x → freeBelow m t x ≡ suc (freeBelow m t₁ x)
     above-one x h =
@@ -163,7 +164,7 @@ module _ (m : Machine) where
         below-or-not r₀ q (λ h. h)
         (λ h.
         clash (isTarget t₁ q) e
-        (below-or-not q r₀ (λ l. other-target q (λ s. absurd (omega arith)) ∙ found-low (isTarget t) (m .frames) q l)
+        (below-or-not q r₀ (λ l. other-target q (λ s. absurd (omega arith)) ∙ found-low (isTarget t) (m .memory .frames) q l)
         (λ l. subst (λ (k : ℕ). isTarget t₁ k ≡ false) (omega arith) taken)))
 
     movers-same : (q : ℕ) → suc p ≤ q → q < p + suc d → isMover t₁ q ≡ isMover t q
@@ -175,7 +176,7 @@ module _ (m : Machine) where
           sized = sized₁;
           inside = omega (arith, ready .inside);
           in-area = λ q a b. ready .in-area q (omega arith) (omega arith);
-          room = omega (arith, ready .room, movers-here, above-one (m .frames) some-target, many-cong (isMover t₁) (isMover t) (suc p) d (λ q a b. movers-same q a (omega arith)));
+          room = omega (arith, ready .room, movers-here, above-one (m .memory .frames) some-target, many-cong (isMover t₁) (isMover t) (suc p) d (λ q a b. movers-same q a (omega arith)));
         }
 
     module _ (t′ : Tables) (ih : Moved t₁ t′ (suc p) d) where

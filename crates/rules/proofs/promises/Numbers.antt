@@ -5,11 +5,12 @@ use mathlib.Core.Logic.{_≢_}
 use mathlib.Core.List.{List}
 use Rattle.frames.specs.declared.Frame.{Frame}
 use Rattle.frames.specs.Tables.{Tables}
-use Rattle.rules.specs.Record.{Machine}
+use Rattle.rules.specs.declared.Call.{Call}
+use Rattle.rules.specs.declared.Call.the-variants as Call
+use Rattle.rules.specs.declared.Record.{Record}
 use Rattle.rules.specs.Outcomes.{Outcome, Check}
 use Rattle.rules.specs.PageCalls as Page
 use Rattle.rules.specs.DeviceCalls as Device
-use Rattle.rules.specs.Calls.{Call, putMovable, putFixed, dropPage, pinPage, unpinPage, storePage, readPage, grant, release, deviceStore, deviceRead, declare, boot}
 use Rattle.rules.specs.promises.Numbers.{_answers_otherwise_, accepted, WrongShape, BadName, NotLive, OutsideMemory, NotGranted, RefusedExactly, RefusalHasZeros}
 use Rattle.rules.proofs.Checks.{checked-cases}
 use Rattle.rules.proofs.EachCall.{each-call}
@@ -24,7 +25,7 @@ use Rattle.rules.proofs.promises.BootNumbers.{boot-answers-place}
 
 -- a page that is looked up
 looked-up :
-    (m : Machine) (t : Tables) (name : ℕ) {o : Outcome} {more : List Check} {later : ℕ → Type 0} →
+    (m : Record) (t : Tables) (name : ℕ) {o : Outcome} {more : List Check} {later : ℕ → Type 0} →
     ((NotLive m t name → ⊥) → Ladder m t o more later) →
     Ladder m t o (Page.liveChecks m name t more)
     (WrongShape m t answers 1 otherwise BadName name answers 2 otherwise NotLive m t name answers 3 otherwise later)
@@ -32,7 +33,7 @@ looked-up m t name rest = rung (wrong-shape m t) (λ _. rung (bad-name name) (λ
 
 -- a frame that a device uses
 used :
-    (m : Machine) (t : Tables) (f : Frame) {o : Outcome} →
+    (m : Record) (t : Tables) (f : Frame) {o : Outcome} →
     o .answer .refusal ≡ 0 →
     Ladder m t o (Device.deviceChecks m f t)
     (WrongShape m t answers 1 otherwise OutsideMemory m (f .0) answers 2 otherwise NotGranted m t (f .0) answers 3 otherwise accepted)
@@ -40,30 +41,30 @@ used m t f done = rung (wrong-shape m t) (λ _. rung (outside-memory m t f) (λ 
 
 pub refused-exactly : RefusedExactly
 unfolding Page.putPage Page.dropPage Page.changeKind Page.storePage Page.readPage Device.grant Device.release Device.deviceStore Device.deviceRead
-refused-exactly (putMovable name) m t =
+refused-exactly (Call.PutMovable name) text m t =
     exactly (rung (wrong-shape m t) (λ _. rung (bad-name name) (λ _. rung (live m t name) (λ _. rung (put-movable m t) (λ _. foot refl)))))
-refused-exactly (putFixed name) m t =
+refused-exactly (Call.PutFixed name) text m t =
     exactly (rung (wrong-shape m t) (λ _. rung (bad-name name) (λ _. rung (live m t name) (λ _. rung (put-fixed m t) (λ _. foot refl)))))
-refused-exactly (dropPage name) m t = exactly (looked-up m t name (λ lives. rung (page-is m t name 2 lives) (λ _. foot refl)))
-refused-exactly (pinPage name) m t = exactly (looked-up m t name (λ lives. rung (says-not (page-is m t name 1 lives)) (λ _. foot refl)))
-refused-exactly (unpinPage name) m t = exactly (looked-up m t name (λ lives. rung (says-not (page-is m t name 2 lives)) (λ _. foot refl)))
-refused-exactly (storePage name word) m t = exactly (looked-up m t name (λ lives. rung (page-is m t name 2 lives) (λ _. foot refl)))
-refused-exactly (readPage name) m t = exactly (looked-up m t name (λ _. foot refl))
-refused-exactly (grant i count order) m t =
+refused-exactly (Call.Drop name) text m t = exactly (looked-up m t name (λ lives. rung (page-is m t name 2 lives) (λ _. foot refl)))
+refused-exactly (Call.Pin name) text m t = exactly (looked-up m t name (λ lives. rung (says-not (page-is m t name 1 lives)) (λ _. foot refl)))
+refused-exactly (Call.Unpin name) text m t = exactly (looked-up m t name (λ lives. rung (says-not (page-is m t name 2 lives)) (λ _. foot refl)))
+refused-exactly (Call.Store name word) text m t = exactly (looked-up m t name (λ lives. rung (page-is m t name 2 lives) (λ _. foot refl)))
+refused-exactly (Call.Read name) text m t = exactly (looked-up m t name (λ _. foot refl))
+refused-exactly (Call.Grant i count alignOrder) text m t =
     exactly
     (rung (wrong-shape m t)
     (λ _.
-    rung (bad-grant m t i count order)
-    (λ good. rung (no-run m t i count order good) (λ run. rung (no-targets m t i count order good run) (λ _. foot refl)))))
-refused-exactly (release i f count) m t =
+    rung (bad-grant m t i count alignOrder)
+    (λ good. rung (no-run m t i count alignOrder good) (λ run. rung (no-targets m t i count alignOrder good run) (λ _. foot refl)))))
+refused-exactly (Call.Release i f count) text m t =
     exactly
     (rung (wrong-shape m t)
     (λ _. rung (bad-release m t i f count) (λ _. rung (no-grant m t i f count) (λ _. rung (disagrees m t i f count) (λ _. foot refl)))))
-refused-exactly (deviceStore f word) m t = exactly (used m t f refl)
-refused-exactly (deviceRead f) m t = exactly (used m t f refl)
-refused-exactly (declare r) m t = declare-exactly m r t
-refused-exactly (boot base frames order text) m t = λ n.
-    let exact = boot-answers-place base frames order text m t .0 in
+refused-exactly (Call.DeviceStore f word) text m t = exactly (used m t f refl)
+refused-exactly (Call.DeviceRead f) text m t = exactly (used m t f refl)
+refused-exactly (Call.Declare r) text m t = declare-exactly m r t
+refused-exactly (Call.Boot base frames blockOrder) text m t = λ n.
+    let exact = boot-answers-place base frames blockOrder text m t .0 in
     (λ e. (_, exact n _ .0 (e, refl)), λ w. exact n (w .0) .1 (w .1) .0)
 
 -- a refusal of one of a call's checks has two zeros
@@ -71,10 +72,10 @@ abbrev HasZeros : Outcome → Type 0
 HasZeros o = o .answer .refusal ≢ 0 → (o .answer .first ≡ 0) × (o .answer .second ≡ 0)
 
 abbrev NoBoot : Call → Type 0
-NoBoot call = (base frames order : ℕ) (text : List ℕ) → call ≢ boot base frames order text
+NoBoot call = (base : Frame) (frames blockOrder : ℕ) → call ≢ Call.Boot base frames blockOrder
 
 pub refusal-has-zeros : RefusalHasZeros
 refusal-has-zeros =
     each-call (λ call m t o. NoBoot call → HasZeros o)
     (λ call m t cs o nums done _. checked-cases HasZeros m t cs o nums (λ n h e. (refl, refl)) (λ _ e. absurd (e done)))
-    (λ base frames order text m t no-boot. absurd (no-boot base frames order text refl))
+    (λ base frames blockOrder text m t no-boot. absurd (no-boot base frames blockOrder refl))

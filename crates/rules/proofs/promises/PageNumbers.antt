@@ -9,7 +9,8 @@ use Rattle.frames.specs.Units.{place}
 use Rattle.frames.specs.Marks.{hasKind, movable, fixed}
 use Rattle.frames.specs.Areas.{inAreas}
 use Rattle.frames.specs.Tables.{Tables, markAt}
-use Rattle.rules.specs.Record.{Machine, frameAt}
+use Rattle.rules.specs.declared.Record.{Record}
+use Rattle.rules.specs.Record.{frameAt}
 use Rattle.rules.specs.PageCalls.{badName, pageAt, isPlace, lowestPlace, freeOrdinary, pageHas, putAt}
 use Rattle.rules.specs.promises.Changes.{kindAt}
 use Rattle.rules.specs.promises.Pages.{FreeOrdinary, FreeInArea, NoneFreeOrdinary, Stands}
@@ -21,25 +22,25 @@ pub bad-name : (name : ℕ) → Says (badName name) (BadName name)
 bad-name name = says-or (says-ltb name 1) (λ _. says-ltb 536870911 name)
 
 pub page-is :
-    (m : Machine) (t : Tables) (name kind : ℕ) → (NotLive m t name → ⊥) → Says (pageHas kind m t name) (PageIs kind m t name)
+    (m : Record) (t : Tables) (name kind : ℕ) → (NotLive m t name → ⊥) → Says (pageHas kind m t name) (PageIs kind m t name)
 unfolding pageAt
 page-is m t name kind lives =
-    says-lowest (names m t name) (m .frames) (Stands m t name) (stands m t name) (λ p s. s .in-memory)
+    says-lowest (names m t name) (m .memory .frames) (Stands m t name) (stands m t name) (λ p s. s .in-memory)
     (λ p. hasKind kind (markAt t (place p))) (λ p. kindAt t p ≡ kind) (λ p. says-eqb (kindAt t p) kind)
-    (ltb-true (lowest (names m t name) (m .frames)) (m .frames) (says-yes (live m t name) lives))
+    (ltb-true (lowest (names m t name) (m .memory .frames)) (m .memory .frames) (says-yes (live m t name) lives))
 
 -- ---- where a page can be put
-module _ (m : Machine) (t : Tables) where
+module _ (m : Record) (t : Tables) where
   -- with no free ordinary frame, each free frame is in an area
-  in-area : NoneFreeOrdinary m t → (p : ℕ) → p < m .frames → kindAt t p ≡ 0 → FreeInArea m t p
+  in-area : NoneFreeOrdinary m t → (p : ℕ) → p < m .memory .frames → kindAt t p ≡ 0 → FreeInArea m t p
   in-area none p h free =
-      by-cases (inAreas (m .areas) (m .declared) (frameAt m (place p)))
+      by-cases (inAreas (m .areas) (m .memory .declared) (frameAt m (place p)))
       (λ e. record { in-memory = h; is-free = free; in-area = in-areas m t p .fact e })
       (λ e.
       absurd (none p (record { in-memory = h; is-free = free; is-ordinary = λ i in-it. says-no (in-areas m t p) e (i, in-it) })))
 
   -- a movable page goes to either, a fixed one to an ordinary frame alone
-  movable-place : Says (isPlace m (putAt movable m t)) ((p : ℕ) × (p < m .frames) × (kindAt t p ≡ 0))
+  movable-place : Says (isPlace m (putAt movable m t)) ((p : ℕ) × (p < m .memory .frames) × (kindAt t p ≡ 0))
   unfolding putAt
   movable-place =
       by-cases (isPlace m (lowestPlace m (freeOrdinary m t)))

@@ -15,7 +15,8 @@ use Rattle.frames.specs.declared.Place.{Place}
 use Rattle.frames.specs.Units.{place}
 use Rattle.frames.specs.Marks.{kindOf, markOf, hasKind, movable, pinned, fixed}
 use Rattle.frames.specs.Tables.{Tables, tables, markAt, wordAt, setPage}
-use Rattle.rules.specs.Record.{Machine, frameAt}
+use Rattle.rules.specs.declared.Record.{Record}
+use Rattle.rules.specs.Record.{frameAt}
 use Rattle.rules.specs.Shape.{lengthsRight, shapeRight, shapeWrong}
 use Rattle.rules.specs.Outcomes.{Outcome, outcome, Passed}
 use Rattle.rules.specs.PageCalls.{pageAt, isLive, pageHas, putChecks, dropChecks, changeChecks, storeChecks, readChecks, isPlace, lowestPlace, freeOrdinary, putAt, putPage, dropPage, changeKind, storePage, readPage}
@@ -27,7 +28,7 @@ use Rattle.rules.proofs.promises.Changes.{set-only}
 use Rattle.rules.proofs.promises.PlaceTests.{some-ordinary, lowest-ordinary, lowest-in-area, lowest-standing, live}
 
 -- ---- put
-module _ (m : Machine) (t : Tables) where
+module _ (m : Record) (t : Tables) where
   -- where put's place is one of the machine's, it is one of the two
   abbrev ordinaryPlace : Place
   ordinaryPlace = lowestPlace m (freeOrdinary m t)
@@ -35,7 +36,7 @@ module _ (m : Machine) (t : Tables) where
   put-place : (kind : ℕ) → isPlace m (putAt kind m t) ≡ true → PutPlace kind m t (putAt kind m t .0)
   unfolding putAt
   put-place kind =
-      by-cases (isPlace m ordinaryPlace) (λ e. rw e (λ h. inl (lowest-ordinary m t (ltb-true (ordinaryPlace .0) (m .frames) e))))
+      by-cases (isPlace m ordinaryPlace) (λ e. rw e (λ h. inl (lowest-ordinary m t (ltb-true (ordinaryPlace .0) (m .memory .frames) e))))
       (λ e.
       by-cases (eqb kind movable)
       (λ k.
@@ -43,11 +44,11 @@ module _ (m : Machine) (t : Tables) where
       (λ h. inr (eqb-true kind movable k, λ q f. says-no (some-ordinary m t) e (q, f), lowest-in-area m t (ltb-true _ _ h))))
       (λ k. simp (e, k) (λ h. clash false h refl)))
 
-put-has-place : (kind : ℕ) (m : Machine) (name : ℕ) (t : Tables) → Passed (putChecks kind m name t) → isPlace m (putAt kind m t) ≡ true
+put-has-place : (kind : ℕ) (m : Record) (name : ℕ) (t : Tables) → Passed (putChecks kind m name t) → isPlace m (putAt kind m t) ≡ true
 put-has-place kind m name t p = not-flips (isPlace m (putAt kind m t)) (p .1 .1 .1 .0)
 
 accepted-put :
-    (kind : ℕ) (m : Machine) (name : ℕ) (t : Tables) →
+    (kind : ℕ) (m : Record) (name : ℕ) (t : Tables) →
     putPage kind m name t .answer .refusal ≡ 0 → (p : ℕ) × PutDoes kind m name t (putPage kind m name t) p
 unfolding putPage
 accepted-put kind m name t accepted =
@@ -59,7 +60,7 @@ accepted-put kind m name t accepted =
       record {
         lowest = put-place m t kind in-memory;
         answer = refl;
-        page = set-only m t (shape-known m t (not-flips (shapeRight m t) (passed .0))) p (markOf name kind) 0 (ltb-true p (m .frames) in-memory);
+        page = set-only m t (shape-known m t (not-flips (shapeRight m t) (passed .0))) p (markOf name kind) 0 (ltb-true p (m .memory .frames) in-memory);
         machine = refl;
       },
     ))
@@ -74,12 +75,12 @@ accepted-put-fixed = accepted-put fixed
 pub live-if-stands : LiveIfStands
 live-if-stands m name t = (live m t name .fact, live m t name .test)
 
-module _ (m : Machine) (name : ℕ) (t : Tables) (shaped : shapeWrong m t ≡ false) (standing : not (isLive m t name) ≡ false) where
+module _ (m : Record) (name : ℕ) (t : Tables) (shaped : shapeWrong m t ≡ false) (standing : not (isLive m t name) ≡ false) where
   abbrev at : ℕ
   at = pageAt m t name .0
 
-  in-memory : at < m .frames
-  in-memory = ltb-true at (m .frames) (not-flips (isLive m t name) standing)
+  in-memory : at < m .memory .frames
+  in-memory = ltb-true at (m .memory .frames) (not-flips (isLive m t name) standing)
 
   page-does : (mark word : ℕ) → PageDoes m name t (outcome m (done 0 0) (setPage t (pageAt m t name) mark word)) at mark word
   page-does mark word =
@@ -91,7 +92,7 @@ module _ (m : Machine) (name : ℕ) (t : Tables) (shaped : shapeWrong m t ≡ fa
       }
 
 -- the kind that a change of kind asks for
-has-kind : (kind : ℕ) (m : Machine) (name : ℕ) (t : Tables) → Passed (changeChecks kind m name t) → kindOf (markAt t (pageAt m t name)) ≡ kind
+has-kind : (kind : ℕ) (m : Record) (name : ℕ) (t : Tables) → Passed (changeChecks kind m name t) → kindOf (markAt t (pageAt m t name)) ≡ kind
 has-kind kind m name t passed =
     eqb-true (kindOf (markAt t (pageAt m t name))) kind (not-flips (pageHas kind m t name) (passed .1 .1 .1 .0))
 
@@ -130,12 +131,12 @@ accepted-store m name word t accepted =
 pub accepted-read : AcceptedRead
 unfolding readPage
 accepted-read m name t accepted =
-    accepted-does (λ o. (p : ℕ) × Lowest (Stands m t name) p × (o ≡ outcome m (done (m .base .0 + p) (wordAt t (place p))) t)) m t
+    accepted-does (λ o. (p : ℕ) × Lowest (Stands m t name) p × (o ≡ outcome m (done (m .memory .base .0 + p) (wordAt t (place p))) t)) m t
     (readChecks m name t) _ refl accepted
     (λ passed. (pageAt m t name .0, lowest-standing m t name (in-memory m name t (passed .0) (passed .1 .1 .0)), refl))
 
 -- ---- store, then read
-module _ (m : Machine) (name word : ℕ) (t : Tables) where
+module _ (m : Record) (name word : ℕ) (t : Tables) where
   -- what an accepted store leaves: the page's word, and nothing else
   abbrev stored : Tables
   stored = tables (t .marks) (set (t .words) (pageAt m t name .0) word) (t .bitmap)
@@ -165,7 +166,7 @@ module _ (m : Machine) (name word : ℕ) (t : Tables) where
   in-words : Passed (storeChecks m name t) → pageAt m t name .0 < length (t .words)
   in-words p =
       let s = shape-known m t (not-flips (shapeRight m t) (p .0)) in
-      let h = ltb-true (pageAt m t name .0) (m .frames) (not-flips (isLive m t name) (p .1 .1 .0)) in
+      let h = ltb-true (pageAt m t name .0) (m .memory .frames) (not-flips (isLive m t name) (p .1 .1 .0)) in
       omega (arith, s .words-length)
 
   stored-word : Passed (storeChecks m name t) → wordAt stored (pageAt m stored name) ≡ word
@@ -176,7 +177,7 @@ module _ (m : Machine) (name word : ℕ) (t : Tables) where
       let r = read-outcome (read-passes p) in
       (ap (λ (o : Outcome). o .answer .refusal) r, ap (λ (o : Outcome). o .answer .second) r ∙ stored-word p)
 
-store-passed : (m : Machine) (name word : ℕ) (t : Tables) → storePage m name word t .answer .refusal ≡ 0 → Passed (storeChecks m name t)
+store-passed : (m : Record) (name word : ℕ) (t : Tables) → storePage m name word t .answer .refusal ≡ 0 → Passed (storeChecks m name t)
 unfolding storePage
 store-passed m name word t = accepted-passed m t (storeChecks m name t) _ refl
 
@@ -190,7 +191,7 @@ store-then-read m name word t accepted =
 one-kind : (mark : ℕ) → hasKind pinned mark ≡ true → hasKind movable mark ≡ false
 one-kind mark e = ne-eqb (kindOf mark) movable (λ other. let is = eqb-true (kindOf mark) pinned e in omega arith)
 
-module _ (m : Machine) (t : Tables) (name : ℕ) (is-pinned : pageHas pinned m t name ≡ true) where
+module _ (m : Record) (t : Tables) (name : ℕ) (is-pinned : pageHas pinned m t name ≡ true) where
   no-drop : Passed (dropChecks m name t) → ⊥
   no-drop p = clash (pageHas pinned m t name) is-pinned (p .1 .1 .1 .0)
 

@@ -14,8 +14,10 @@ use Rattle.search.proofs.Ranges.{every-all, every-no}
 use Rattle.frames.specs.Units.{place}
 use Rattle.frames.specs.Areas.{inAreas}
 use Rattle.frames.specs.Tables.{Tables}
-use Rattle.rules.specs.Record.{Machine, placeOf, frameAt}
-use Rattle.rules.specs.Declare.{Request, alignmentFor, baseFor, sizeFor, limitFor, isFixed, areaFrom, isVacant, fitsAt, highestFit, declare}
+use Rattle.rules.specs.declared.Request.{Request}
+use Rattle.rules.specs.declared.Record.{Record}
+use Rattle.rules.specs.Record.{placeOf, frameAt}
+use Rattle.rules.specs.Declare.{alignmentFor, baseFor, sizeFor, limitFor, isFixed, areaFrom, isVacant, fitsAt, highestFit, declare}
 use Rattle.rules.specs.Limits.{pageBytes}
 use Rattle.rules.specs.PageCalls.{isFree, freeOrdinary}
 use Rattle.rules.specs.Shape.{shapeRight}
@@ -27,7 +29,7 @@ use Rattle.rules.proofs.Says.{Says, says-no, says-false, says-true, say
 use Rattle.rules.proofs.ShapeFacts.{shape-memory}
 use Rattle.rules.proofs.promises.PlaceTests.{in-areas, free-ordinary}
 
-module _ (m : Machine) (r : Request) where
+module _ (m : Record) (r : Request) where
   pub at-base : Says (isFixed m r) (AtBase m r)
   at-base = says-and (says-true (r .fixed)) (λ _. says-not (says-eqb (baseFor m r) 0))
 
@@ -50,19 +52,19 @@ pub base-zero-cancels-fixed : BaseZeroCancelsFixed
 unfolding declare alignmentFor baseFor sizeFor limitFor isVacant fitsAt highestFit
 base-zero-cancels-fixed m r t z = rw (not-at-base m r (inr z))
 
-pub judged-amounts : (m : Machine) (r : Request) (t : Tables) → Judged m r t → Amounts m r
+pub judged-amounts : (m : Record) (r : Request) (t : Tables) → Judged m r t → Amounts m r
 judged-amounts m r t judged = amounts m r (shape-memory m t (not-false (shapeRight m t) (judged .shape))) (judged .amounts)
 
 -- ---- one place
-module _ (m : Machine) (t : Tables) (p : ℕ) where
+module _ (m : Record) (t : Tables) (p : ℕ) where
   not-both : FreeOrdinary m t p → Taken m t p → ⊥
   not-both v = ⊎-elim (λ n. n (v .is-free)) (λ w. v .is-ordinary (w .0) (w .1))
 
-  taken : p < m .frames → freeOrdinary m t (place p) ≡ false → Taken m t p
+  taken : p < m .memory .frames → freeOrdinary m t (place p) ≡ false → Taken m t p
   taken h e =
       by-cases (isFree t (place p))
       (λ free.
-      by-cases (inAreas (m .areas) (m .declared) (frameAt m (place p))) (λ y. inr (in-areas m t p .fact y))
+      by-cases (inAreas (m .areas) (m .memory .declared) (frameAt m (place p))) (λ y. inr (in-areas m t p .fact y))
       (λ n.
       absurd
       (says-no (free-ordinary m t p h) e
@@ -71,9 +73,9 @@ module _ (m : Machine) (t : Tables) (p : ℕ) where
 
 -- ---- the range of the size asked that begins at a byte, on a page, and lies in memory
 module _
-    (m : Machine) (r : Request) (t : Tables) (size : sizeFor m r ≡ sizeFor m r / pageBytes * pageBytes)
-    (at : ℕ) (pages : at ≡ at / pageBytes * pageBytes) (low : m .base .0 * 4096 ≤ at)
-    (high : at + sizeFor m r ≤ (m .base .0 + m .frames) * 4096) where
+    (m : Record) (r : Request) (t : Tables) (size : sizeFor m r ≡ sizeFor m r / pageBytes * pageBytes)
+    (at : ℕ) (pages : at ≡ at / pageBytes * pageBytes) (low : m .memory .base .0 * 4096 ≤ at)
+    (high : at + sizeFor m r ≤ (m .memory .base .0 + m .memory .frames) * 4096) where
   abbrev all : Bool
   all = isVacant m t (areaFrom m r at)
 

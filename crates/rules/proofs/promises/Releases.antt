@@ -24,10 +24,11 @@ use Rattle.frames.specs.Marks.{kindOf, hasKind, free, movable, head}
 use Rattle.frames.specs.Areas.{isMultiple, endOf, perBit, bitCount, frameOfBit, bitOfFrame, bitsFor}
 use Rattle.frames.specs.Tables.{Tables, markAt, wordAt}
 use Rattle.frames.proofs.FillFacts.{length-fill, getD-fill-below, getD-fill-above, getD-fill-in}
-use Rattle.rules.specs.Record.{Machine, areaAt, placeOf, isOrdinary}
+use Rattle.rules.specs.declared.Record.{Record}
+use Rattle.rules.specs.Record.{areaAt, placeOf, isOrdinary}
 use Rattle.rules.specs.Shape.{shapeRight}
 use Rattle.rules.specs.Outcomes.{outcome, Passed}
-use Rattle.rules.specs.DeviceCalls.{noArea, bitmapOf, placeOfBit, outsideArea, offBit, freeRun, releaseChecks, release}
+use Rattle.rules.specs.DeviceCalls.{isUnknown, bitmapOf, placeOfBit, outsideArea, offBit, freeRun, releaseChecks, release}
 use Rattle.rules.specs.promises.Changes.{Same, OnlyBits}
 use Rattle.rules.specs.promises.Grants.{Grantable}
 use Rattle.rules.specs.promises.Releases.{StillGrantable, ReleaseDoes, AcceptedRelease}
@@ -61,11 +62,11 @@ abbrev pub Leaves : Tables → ℕ → Type 0
 Leaves t q = (kindOf (markAt t (place q)) ≡ free) ⊎ (kindOf (markAt t (place q)) ≡ movable)
 
 pub stays-grantable :
-    (m : Machine) (t t′ : Tables) →
+    (m : Record) (t t′ : Tables) →
     Shape m t →
     ((at k : ℕ) → isClear (t .bitmap) at k ≡ true → isClear (t′ .bitmap) at k ≡ true) →
     ((q : ℕ) → isOrdinary m (place q) ≡ false → Leaves t q → Leaves t′ q) → StillGrantable m t t′
-stays-grantable m t t′ shape bits frames i count order j known g =
+stays-grantable m t t′ shape bits frames i count alignOrder j known g =
     let c = g .candidate in
     record {
       candidate = record { aligned = c .aligned; inside = c .inside; clear = λ k a b. bits (bitmapOf m i) k (c .clear k a b) };
@@ -75,7 +76,7 @@ stays-grantable m t t′ shape bits frames i count order j known g =
     }
 
 -- ---- a release that has passed its checks
-module _ (m : Machine) (i : ℕ) (f : Frame) (count : ℕ) (t : Tables) (passed : Passed (releaseChecks m i f count t)) where
+module _ (m : Record) (i : ℕ) (f : Frame) (count : ℕ) (t : Tables) (passed : Passed (releaseChecks m i f count t)) where
   abbrev area : Area
   area = areaAt m i
 
@@ -89,10 +90,10 @@ module _ (m : Machine) (i : ℕ) (f : Frame) (count : ℕ) (t : Tables) (passed 
   shape = shape-known m t (not-flips (shapeRight m t) (passed .0))
 
   abbrev unknown : Bool
-  unknown = noArea m i || eqb count 0
+  unknown = isUnknown (m .memory) i || eqb count 0
 
-  known : i < m .declared
-  known = leb-false (m .declared) i (or-left (noArea m i) (eqb count 0) (or-left unknown (outsideArea area f count) (passed .1 .0)))
+  known : i < m .memory .declared
+  known = leb-false (m .memory .declared) i (or-left (isUnknown (m .memory) i) (eqb count 0) (or-left unknown (outsideArea area f count) (passed .1 .0)))
 
   inside : outsideArea area f count ≡ false
   inside = or-right unknown (outsideArea area f count) (passed .1 .0)
@@ -112,10 +113,10 @@ module _ (m : Machine) (i : ℕ) (f : Frame) (count : ℕ) (t : Tables) (passed 
       let on = not-flips (isMultiple (f .0 - area .base .0) (perBit area)) (or-left (offBit area f) first (passed .1 .1 .0)) in
       omega (arith, low, eqb-true ((f .0 - area .base .0) % perBit area) 0 on, div-add-mod' (f .0 - area .base .0) (perBit area))
 
-  is-at : f .0 ≡ m .base .0 + p
+  is-at : f .0 ≡ m .memory .base .0 + p
   is-at = omega (arith, low, facts .low)
 
-  in-memory : p + count ≤ m .frames
+  in-memory : p + count ≤ m .memory .frames
   in-memory = omega (arith, is-at, high, facts .high)
 
   fits : j + bitsFor area count ≤ bitCount area
@@ -157,12 +158,12 @@ module _ (m : Machine) (i : ℕ) (f : Frame) (count : ℕ) (t : Tables) (passed 
       as-before out = subst (λ (x : ℕ). (kindOf x ≡ free) ⊎ (kindOf x ≡ movable)) (sym (same-else q out .mark)) before
 
   can-grant :
-      (count′ order′ j′ : ℕ) →
-      frameOfBit area (bit j′) .0 % 2 ^ order′ ≡ 0 →
+      (count′ alignOrder′ j′ : ℕ) →
+      frameOfBit area (bit j′) .0 % 2 ^ alignOrder′ ≡ 0 →
       j ≤ j′ →
       j′ + bitsFor area count′ ≤ j + bitsFor area count →
-      placeOfBit m i (bit j′) .0 + count′ ≤ p + count → Grantable m freed i count′ order′ j′
-  can-grant count′ order′ j′ aligned from to frames =
+      placeOfBit m i (bit j′) .0 + count′ ≤ p + count → Grantable m freed i count′ alignOrder′ j′
+  can-grant count′ alignOrder′ j′ aligned from to frames =
       let after : j * perBit area ≤ j′ * perBit area = mul-le-mul-right (perBit area) from in
       record {
         candidate = record { aligned = aligned; inside = omega (arith, fits); clear = λ k a b. only-bits .run k (omega arith) (omega arith) };

@@ -21,7 +21,7 @@ rounded-down x d h = record { multiple = (x / d, refl); below = down-low x d h; 
 pub amounts-round : AmountsRound
 unfolding alignmentFor baseFor sizeFor
 amounts-round m r =
-    let block = 4096 * 2 ^ m .order in
+    let block = 4096 * 2 ^ m .memory .«block_order» in
     record {
       as-asked = omega arith;
       a-block = omega arith;

@@ -19,26 +19,27 @@ use Rattle.frames.specs.Areas.{perBit, bitCount, bitsFor, wordCount, firstWord}
 use Rattle.frames.specs.Tables.{Tables, markAt, wordAt}
 use Rattle.frames.proofs.AreaFacts.{first-word-suc, holds-yes, in-area}
 use Rattle.frames.proofs.FillFacts.{getD-fill-below, getD-fill-above, getD-fill-in}
-use Rattle.rules.specs.Record.{Machine, areaAt, isOrdinary}
+use Rattle.rules.specs.declared.Record.{Record}
+use Rattle.rules.specs.Record.{areaAt, isOrdinary}
 use Rattle.rules.specs.DeviceCalls.{bitmapOf, placeOfBit, markRun}
 use Rattle.rules.proofs.Divisions.{le-ceiling}
 use Rattle.rules.proofs.Shapes.{Shape}
 use Rattle.rules.proofs.AreaRight.{area-known}
 
 -- the words of area i end where those of a later area begin, or before
-pub first-word-le : (m : Machine) (i d : ℕ) → firstWord (m .areas) i + wordCount (areaAt m i) ≤ firstWord (m .areas) (suc i + d)
+pub first-word-le : (m : Record) (i d : ℕ) → firstWord (m .areas) i + wordCount (areaAt m i) ≤ firstWord (m .areas) (suc i + d)
 first-word-le m i zero = let e : suc i + 0 ≡ suc i = omega arith in rw e (rw (first-word-suc (m .areas) i) (le-refl _))
 first-word-le m i (suc d) =
     let e : suc i + suc d ≡ suc (suc i + d) = omega arith in
     rw e (omega (arith, first-word-le m i d, first-word-suc (m .areas) (suc i + d)))
 
-pub words-inside : (m : Machine) (t : Tables) → Shape m t → (i : ℕ) → i < m .declared → bitmapOf m i + wordCount (areaAt m i) ≤ length (t .bitmap)
+pub words-inside : (m : Record) (t : Tables) → Shape m t → (i : ℕ) → i < m .memory .declared → bitmapOf m i + wordCount (areaAt m i) ≤ length (t .bitmap)
 words-inside m t s i h =
-    let e : suc i + (m .declared - suc i) ≡ m .declared = omega arith in
-    omega (arith, first-word-le m i (m .declared - suc i), ap (firstWord (m .areas)) e, s .bitmap-high)
+    let e : suc i + (m .memory .declared - suc i) ≡ m .memory .declared = omega arith in
+    omega (arith, first-word-le m i (m .memory .declared - suc i), ap (firstWord (m .areas)) e, s .bitmap-high)
 
 -- the bits of a run are whole, and its frames lie in the area
-module _ (m : Machine) (t : Tables) (s : Shape m t) (i count j : ℕ) (known : i < m .declared) (inside : j + bitsFor (areaAt m i) count ≤ bitCount (areaAt m i)) where
+module _ (m : Record) (t : Tables) (s : Shape m t) (i count j : ℕ) (known : i < m .memory .declared) (inside : j + bitsFor (areaAt m i) count ≤ bitCount (areaAt m i)) where
   abbrev area : Area
   area = areaAt m i
 
@@ -52,17 +53,17 @@ module _ (m : Machine) (t : Tables) (s : Shape m t) (i count j : ℕ) (known : i
       omega arith
 
   pub count-le : count ≤ bitsFor area count * perBit area
-  count-le = le-ceiling count (perBit area) (bitsFor area count) (pow-pos (area .order)) (le-refl _)
+  count-le = le-ceiling count (perBit area) (bitsFor area count) (pow-pos (area .«order_per_bit»)) (le-refl _)
 
-  pub at-is : m .base .0 + at ≡ area .base .0 + j * perBit area
+  pub at-is : m .memory .base .0 + at ≡ area .base .0 + j * perBit area
   at-is = omega (arith, area-known m t s i known .low)
 
-  pub run-inside : at + bitsFor area count * perBit area ≤ m .frames
+  pub run-inside : at + bitsFor area count * perBit area ≤ m .memory .frames
   run-inside = omega (arith, frames-inside, at-is, area-known m t s i known .high)
 
   pub run-in-area : (q : ℕ) → at ≤ q → q < at + bitsFor area count * perBit area → isOrdinary m (place q) ≡ false
   run-in-area q a b =
-      ap not (in-area (m .areas) (m .declared) (frame (m .base .0 + q)) i known (holds-yes area (m .base .0 + q) (omega (arith, at-is)) (omega (arith, at-is, frames-inside))))
+      ap not (in-area (m .areas) (m .memory .declared) (frame (m .memory .base .0 + q)) i known (holds-yes area (m .memory .base .0 + q) (omega (arith, at-is)) (omega (arith, at-is, frames-inside))))
 
 -- ---- marking a run
 

@@ -11,14 +11,15 @@ use Rattle.search.proofs.Ranges.{every-all, all-every}
 use Rattle.frames.specs.declared.Area.{Area}
 use Rattle.frames.specs.Areas.{endOf, areDisjoint, firstWord}
 use Rattle.frames.specs.Tables.{Tables}
-use Rattle.rules.specs.Record.{Machine, areaAt, endFrame}
+use Rattle.rules.specs.declared.Record.{Record}
+use Rattle.rules.specs.Record.{areaAt, endFrame}
 use Rattle.rules.specs.Shape.{memoryRight, lengthsRight, areaRight, areaFits, shapeRight, shapeWrong}
 use Rattle.rules.specs.promises.Shapes.{RightMemory, RightLengths, RightArea, InArea, RightShape, ShapeIsRight}
 use Rattle.rules.proofs.Says.{Says, says-is, says-leb, says-eqb, says-not, says-and, says-or}
 
-pub memory-says : (base frames order : ℕ) → Says (memoryRight base frames order) (RightMemory base frames order)
+pub memory-says : (base frames blockOrder : ℕ) → Says (memoryRight base frames blockOrder) (RightMemory base frames blockOrder)
 unfolding memoryRight
-memory-says base frames order =
+memory-says base frames blockOrder =
     says-is
     (λ h. record { base-least = h .0 .0 .0 .0; frames-least = h .0 .0 .0 .1; frames-most = h .0 .0 .1; end-most = h .0 .1; order-most = h .1 })
     (λ r. ((((r .base-least, r .frames-least), r .frames-most), r .end-most), r .order-most))
@@ -26,7 +27,7 @@ memory-says base frames order =
     (says-and
     (says-and (says-and (says-leb 1 base) (λ _. says-leb 1 frames)) (λ _. says-leb frames 65536))
     (λ _. says-leb (base + frames) (2 ^ 36)))
-    (λ _. says-leb order 10))
+    (λ _. says-leb blockOrder 10))
 
 pub lengths-says : (frames : ℕ) (t : Tables) → Says (lengthsRight frames t) (RightLengths frames t)
 unfolding lengthsRight
@@ -34,18 +35,18 @@ lengths-says frames t =
     says-is (λ h. record { marks = h .0; words = h .1 }) (λ r. (r .marks, r .words))
     (says-and (says-eqb (length (t .marks)) frames) (λ _. says-eqb (length (t .words)) frames))
 
-area-says : (m : Machine) (a : Area) → Says (areaRight m a) (RightArea m a)
+area-says : (m : Record) (a : Area) → Says (areaRight (m .memory) a) (RightArea m a)
 unfolding areaRight
 area-says m a =
     says-is
-    (λ h. record { some = h .0 .0 .0 .0 .0; order = h .0 .0 .0 .0 .1; first = h .0 .0 .0 .1; count = h .0 .0 .1; low = h .0 .1; high = h .1 })
-    (λ r. (((((r .some, r .order), r .first), r .count), r .low), r .high))
+    (λ h. record { some = h .0 .0 .0 .0 .0; per-bit = h .0 .0 .0 .0 .1; first = h .0 .0 .0 .1; count = h .0 .0 .1; low = h .0 .1; high = h .1 })
+    (λ r. (((((r .some, r .per-bit), r .first), r .count), r .low), r .high))
     (says-and
     (says-and
     (says-and
-    (says-and (says-and (says-leb 1 (a .count)) (λ _. says-leb (a .order) (m .order))) (λ _. says-eqb _ 0))
+    (says-and (says-and (says-leb 1 (a .count)) (λ _. says-leb (a .«order_per_bit») (m .memory .«block_order»))) (λ _. says-eqb _ 0))
     (λ _. says-eqb _ 0))
-    (λ _. says-leb (m .base .0) (a .base .0)))
+    (λ _. says-leb (m .memory .base .0) (a .base .0)))
     (λ _. says-leb (endOf a) (endFrame m)))
 
 -- two areas that are not empty lie one behind the other just where no frame is in both
@@ -64,42 +65,42 @@ disjoint-says a c some-a some-c =
     (says-or (says-leb (endOf a) (c .base .0)) (λ _. says-leb (endOf c) (a .base .0)))
 
 -- each declared area is right, and no frame is in two of them
-module _ (m : Machine) where
+module _ (m : Record) where
   abbrev apart : ℕ → ℕ → Bool
   apart k i = areDisjoint (areaAt m i) (areaAt m k)
 
   abbrev Right : Type 0
-  Right = (i : ℕ) → i < m .declared → RightArea m (areaAt m i)
+  Right = (i : ℕ) → i < m .memory .declared → RightArea m (areaAt m i)
 
   abbrev Apart : Type 0
   Apart = (f i k : ℕ) → InArea m f i → InArea m f k → i ≡ k
 
-  pair-says : Right → (i k : ℕ) → i < k → k < m .declared → Says (apart k i) ((f : ℕ) → Holds (areaAt m i) f → Holds (areaAt m k) f → ⊥)
+  pair-says : Right → (i k : ℕ) → i < k → k < m .memory .declared → Says (apart k i) ((f : ℕ) → Holds (areaAt m i) f → Holds (areaAt m k) f → ⊥)
   pair-says right i k l h = disjoint-says (areaAt m i) (areaAt m k) (right i (omega arith) .some) (right k h .some)
 
-  right-known : every (areaFits m) 0 (m .declared) ≡ true → Right
+  right-known : every (areaFits m) 0 (m .memory .declared) ≡ true → Right
   unfolding areaFits
   right-known e k h =
-      let fits = every-all (areaFits m) 0 (m .declared) e k (omega arith) (omega arith) in
+      let fits = every-all (areaFits m) 0 (m .memory .declared) e k (omega arith) (omega arith) in
       area-says m (areaAt m k) .fact (and-left _ (every (apart k) 0 k) fits)
 
-  not-two : every (areaFits m) 0 (m .declared) ≡ true → (f i k : ℕ) → InArea m f i → InArea m f k → i < k → ⊥
+  not-two : every (areaFits m) 0 (m .memory .declared) ≡ true → (f i k : ℕ) → InArea m f i → InArea m f k → i < k → ⊥
   unfolding areaFits
   not-two e f i k a c l =
-      let fits = every-all (areaFits m) 0 (m .declared) e k (omega arith) (omega (arith, c .declared)) in
+      let fits = every-all (areaFits m) 0 (m .memory .declared) e k (omega arith) (omega (arith, c .declared)) in
       pair-says (right-known e) i k l (c .declared) .fact
-      (every-all (apart k) 0 k (and-right (areaRight m (areaAt m k)) _ fits) i (omega arith) (omega arith)) f (a .low, a .high) (c .low, c .high)
+      (every-all (apart k) 0 k (and-right (areaRight (m .memory) (areaAt m k)) _ fits) i (omega arith) (omega arith)) f (a .low, a .high) (c .low, c .high)
 
-  apart-known : every (areaFits m) 0 (m .declared) ≡ true → Apart
+  apart-known : every (areaFits m) 0 (m .memory .declared) ≡ true → Apart
   apart-known e f i k a c =
       below-or-not i k (λ l. absurd (not-two e f i k a c l)) (λ h. below-or-not k i (λ l. absurd (not-two e f k i c a l)) (λ g. omega arith))
 
-  areas-test : Right → Apart → every (areaFits m) 0 (m .declared) ≡ true
+  areas-test : Right → Apart → every (areaFits m) 0 (m .memory .declared) ≡ true
   unfolding areaFits
   areas-test right none =
-      all-every (areaFits m) 0 (m .declared)
+      all-every (areaFits m) 0 (m .memory .declared)
       (λ k _ h.
-      and-both (areaRight m (areaAt m k)) (every (apart k) 0 k) (area-says m (areaAt m k) .test (right k (omega arith)))
+      and-both (areaRight (m .memory) (areaAt m k)) (every (apart k) 0 k) (area-says m (areaAt m k) .test (right k (omega arith)))
       (all-every (apart k) 0 k
       (λ i _ l.
       pair-says right i k (omega arith) (omega arith) .test
@@ -109,10 +110,10 @@ module _ (m : Machine) where
       in
       absurd (omega arith)))))
 
-  areas-says : Says (every (areaFits m) 0 (m .declared)) (Right × Apart)
+  areas-says : Says (every (areaFits m) 0 (m .memory .declared)) (Right × Apart)
   areas-says = record { fact = λ e. (right-known e, apart-known e); test = λ h. areas-test (h .0) (h .1) }
 
-pub shape-says : (m : Machine) (t : Tables) → Says (shapeRight m t) (RightShape m t)
+pub shape-says : (m : Record) (t : Tables) → Says (shapeRight m t) (RightShape m t)
 unfolding shapeRight
 shape-says m t =
     says-is
@@ -129,13 +130,13 @@ shape-says m t =
     (says-and
     (says-and
     (says-and
-    (says-and (memory-says (m .base .0) (m .frames) (m .order)) (λ _. says-leb (m .declared) 8))
-    (λ _. lengths-says (m .frames) t))
+    (says-and (memory-says (m .memory .base .0) (m .memory .frames) (m .memory .«block_order»)) (λ _. says-leb (m .memory .declared) 8))
+    (λ _. lengths-says (m .memory .frames) t))
     (λ _. areas-says m))
-    (λ _. says-leb (firstWord (m .areas) (m .declared)) (length (t .bitmap))))
+    (λ _. says-leb (firstWord (m .areas) (m .memory .declared)) (length (t .bitmap))))
 
 pub shape-is-right : ShapeIsRight
 shape-is-right m t = (shape-says m t .fact, shape-says m t .test)
 
-pub wrong-shape : (m : Machine) (t : Tables) → Says (shapeWrong m t) (RightShape m t → ⊥)
+pub wrong-shape : (m : Record) (t : Tables) → Says (shapeWrong m t) (RightShape m t → ⊥)
 wrong-shape m t = says-not (shape-says m t)

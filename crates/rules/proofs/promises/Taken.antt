@@ -23,12 +23,13 @@ use Rattle.frames.specs.Marks.{kindOf, fieldOf, markOf, hasKind, free, movable,
 use Rattle.frames.specs.Areas.{endOf, perBit, bitCount, bitsFor, frameOfBit}
 use Rattle.frames.specs.Tables.{Tables, markAt}
 use Rattle.frames.proofs.FillFacts.{length-fill}
-use Rattle.rules.specs.Record.{Machine, areaAt, isOrdinary}
-use Rattle.rules.specs.Limits.{mostAlignment}
+use Rattle.rules.specs.declared.Record.{Record}
+use Rattle.rules.specs.Record.{areaAt, isOrdinary}
+use Rattle.rules.specs.Limits.{mostAlignOrder}
 use Rattle.rules.specs.Shape.{shapeRight}
 use Rattle.rules.specs.Outcomes.{Outcome, outcome, Passed}
 use Rattle.rules.specs.PageCalls.{isFree, freeOrdinary}
-use Rattle.rules.specs.DeviceCalls.{noArea, bitmapOf, placeOfBit, chosen, movers, targets, moveOut, takeRun, grantChecks, grant, outsideArea, offBit, laterFrames, releaseChecks, release}
+use Rattle.rules.specs.DeviceCalls.{isUnknown, bitmapOf, placeOfBit, chosen, movers, targets, moveOut, takeRun, grantChecks, grant, outsideArea, offBit, laterFrames, releaseChecks, release}
 use Rattle.rules.proofs.Checks.{checked-passed, accepted-passed}
 use Rattle.rules.proofs.ShapeFacts.{shape-lengths}
 use Rattle.rules.proofs.Shapes.{Shape, shape-known}
@@ -47,13 +48,13 @@ head-kind count = eq-eqb (kindOf (markOf count head)) head (omega arith)
 head-field : (count : ℕ) → fieldOf (markOf count head) ≡ count
 head-field count = omega arith
 
-grant-passes : (m : Machine) (i count order : ℕ) (t : Tables) → grant m i count order t .answer .refusal ≡ 0 → Passed (grantChecks m i count order t)
+grant-passes : (m : Record) (i count alignOrder : ℕ) (t : Tables) → grant m i count alignOrder t .answer .refusal ≡ 0 → Passed (grantChecks m i count alignOrder t)
 unfolding grant
-grant-passes m i count order t e = accepted-passed m t (grantChecks m i count order t) _ refl e
+grant-passes m i count alignOrder t e = accepted-passed m t (grantChecks m i count alignOrder t) _ refl e
 
-module _ (m : Machine) (i count order : ℕ) (t : Tables) (passed : Passed (grantChecks m i count order t)) where
+module _ (m : Record) (i count alignOrder : ℕ) (t : Tables) (passed : Passed (grantChecks m i count alignOrder t)) where
   abbrev j : ℕ
-  j = chosen m t i count order .0
+  j = chosen m t i count alignOrder .0
 
   abbrev p : ℕ
   p = placeOfBit m i (bit j) .0
@@ -68,16 +69,16 @@ module _ (m : Machine) (i count order : ℕ) (t : Tables) (passed : Passed (gran
   shape : Shape m t
   shape = shape-known m t right
 
-  arguments : (noArea m i || eqb count 0 || ltb mostAlignment order) ≡ false
+  arguments : (isUnknown (m .memory) i || eqb count 0 || ltb mostAlignOrder alignOrder) ≡ false
   arguments = passed .1 .0
 
-  known : i < m .declared
-  known = leb-false (m .declared) i (or-left (noArea m i) (eqb count 0) (or-left (noArea m i || eqb count 0) (ltb mostAlignment order) arguments))
+  known : i < m .memory .declared
+  known = leb-false (m .memory .declared) i (or-left (isUnknown (m .memory) i) (eqb count 0) (or-left (isUnknown (m .memory) i || eqb count 0) (ltb mostAlignOrder alignOrder) arguments))
 
   some : 0 < count
   some =
       below-or-not 0 count (λ h. h)
-      (λ h. absurd (eqb-false count 0 (or-right (noArea m i) (eqb count 0) (or-left (noArea m i || eqb count 0) (ltb mostAlignment order) arguments)) (omega arith)))
+      (λ h. absurd (eqb-false count 0 (or-right (isUnknown (m .memory) i) (eqb count 0) (or-left (isUnknown (m .memory) i || eqb count 0) (ltb mostAlignOrder alignOrder) arguments)) (omega arith)))
 
   found : j < bitCount area
   found = leb-false (bitCount area) j (passed .1 .1 .0)
@@ -85,8 +86,8 @@ module _ (m : Machine) (i count order : ℕ) (t : Tables) (passed : Passed (gran
   room : movers t (place p) count ≤ targets m t
   room = ltb-false (targets m t) (movers t (place p) count) (passed .1 .1 .1 .0)
 
-  grantable : Grantable m t i count order j
-  grantable = first-known m t i count order found .grantable
+  grantable : Grantable m t i count alignOrder j
+  grantable = first-known m t i count alignOrder found .grantable
 
   inside : j + bitsFor area count ≤ bitCount area
   inside = grantable .candidate .inside
@@ -148,7 +149,7 @@ module _ (m : Machine) (i count order : ℕ) (t : Tables) (passed : Passed (gran
   abbrev after : Outcome
   after = outcome m (done answered (movers t (place p) count)) left
 
-  grant-after : grant m i count order t ≡ after
+  grant-after : grant m i count alignOrder t ≡ after
   unfolding grant
   grant-after = checked-passed m t _ _ passed
 
@@ -184,7 +185,7 @@ module _ (m : Machine) (i count order : ℕ) (t : Tables) (passed : Passed (gran
             };
       }
 
-  does : GrantDoes m i count t (grant m i count order t) p j
+  does : GrantDoes m i count t (grant m i count alignOrder t) p j
   does = subst (λ (o : Outcome). GrantDoes m i count t o p j) (sym grant-after) does-after
 
   -- ---- the release of what was granted is accepted
@@ -201,10 +202,10 @@ module _ (m : Machine) (i count order : ℕ) (t : Tables) (passed : Passed (gran
   unfolding laterFrames
   later-there = all-every _ (suc p) (count - 1) (λ q a b. ap (hasKind later) (does-after .rest q a (omega arith)))
 
-  inside-area : (noArea m i || eqb count 0 || outsideArea area f count) ≡ false
+  inside-area : (isUnknown (m .memory) i || eqb count 0 || outsideArea area f count) ≡ false
   inside-area =
       let e : answered + count ≤ endOf area = omega (arith, frames-inside m t shape i count j known inside, count-le m t shape i count j known inside) in
-      or-neither _ _ (or-neither _ _ (lt-leb (m .declared) i known) (ne-eqb count 0 (λ z. absurd (omega (arith, some)))))
+      or-neither _ _ (or-neither _ _ (lt-leb (m .memory .declared) i known) (ne-eqb count 0 (λ z. absurd (omega (arith, some)))))
       (or-neither _ _ (le-ltb answered (area .base .0) (omega arith)) (le-ltb (endOf area) (answered + count) e))
 
   on-bit : (offBit area f || not (hasKind head (markAt left (place p)))) ≡ false
@@ -234,7 +235,7 @@ module _ (m : Machine) (i count order : ℕ) (t : Tables) (passed : Passed (gran
     same-bit : j′ ≡ j
     same-bit =
         let e : j′ * perBit area ≡ j * perBit area = omega (arith, r .on-bit) in
-        eq-of-mul-eq-mul-right (perBit area) (pow-pos (area .order)) j′ j e
+        eq-of-mul-eq-mul-right (perBit area) (pow-pos (area .«order_per_bit»)) j′ j e
 
     -- the run's bits were clear, and nothing else changed in between
     only-bits : OnlyBits t (u .left) (bitmapOf m i) j′ (bitsFor area count) true
@@ -260,32 +261,32 @@ module _ (m : Machine) (i count order : ℕ) (t : Tables) (passed : Passed (gran
             let s = does-after .kept q (λ a b. outside (omega (arith, same-place)) (omega (arith, same-place))) (λ e. absurd (not-free e)) in
             subst (λ (x : ℕ). (kindOf x ≡ free) ⊎ (kindOf x ≡ movable)) (sym (r .kept q outside .mark ∙ s .mark)) before
 
-    freed-room : FreedRoom m i count order t after u j′
+    freed-room : FreedRoom m i count alignOrder t after u j′
     freed-room =
         record {
           accepted = release-accepted;
           on-bit = r .on-bit;
-          again = r .again count order j′ aligned (omega arith) (omega arith) (omega (arith, r .at, r .on-bit));
+          again = r .again count alignOrder j′ aligned (omega arith) (omega arith) (omega (arith, r .at, r .on-bit));
           still = stays-grantable m t (u .left) shape (stays-clear t (u .left) (bitmapOf m i) j′ (bitsFor area count) only-bits) can-leave;
         }
       where
-        aligned : frameOfBit area (bit j′) .0 % 2 ^ order ≡ 0
-        aligned = subst (λ (k : ℕ). frameOfBit area (bit k) .0 % 2 ^ order ≡ 0) (sym same-bit) (grantable .candidate .aligned)
+        aligned : frameOfBit area (bit j′) .0 % 2 ^ alignOrder ≡ 0
+        aligned = subst (λ (k : ℕ). frameOfBit area (bit k) .0 % 2 ^ alignOrder ≡ 0) (sym same-bit) (grantable .candidate .aligned)
 
-  freed-after : (k : ℕ) × FreedRoom m i count order t after u k
+  freed-after : (k : ℕ) × FreedRoom m i count alignOrder t after u k
   freed-after = let r = accepted-release m i f count left release-accepted in (r .1, freed-room (r .0) (r .1) (r .2))
 
   freed :
-      let o = grant m i count order t in
-      (k : ℕ) × FreedRoom m i count order t o (release (o .machine) i (frame (o .answer .first)) count (o .left)) k
+      let o = grant m i count alignOrder t in
+      (k : ℕ) × FreedRoom m i count alignOrder t o (release (o .machine) i (frame (o .answer .first)) count (o .left)) k
   freed =
-      subst (λ (o : Outcome). (k : ℕ) × FreedRoom m i count order t o (release (o .machine) i (frame (o .answer .first)) count (o .left)) k)
+      subst (λ (o : Outcome). (k : ℕ) × FreedRoom m i count alignOrder t o (release (o .machine) i (frame (o .answer .first)) count (o .left)) k)
       (sym grant-after) freed-after
 
 pub accepted-grant : AcceptedGrant
-accepted-grant m i count order t e =
-    let passed = grant-passes m i count order t e in
-    (p m i count order t passed, j m i count order t passed, does m i count order t passed)
+accepted-grant m i count alignOrder t e =
+    let passed = grant-passes m i count alignOrder t e in
+    (p m i count alignOrder t passed, j m i count alignOrder t passed, does m i count alignOrder t passed)
 
 pub freed-room-is-used : FreedRoomIsUsed
-freed-room-is-used m i count order t e = freed m i count order t (grant-passes m i count order t e)
+freed-room-is-used m i count alignOrder t e = freed m i count alignOrder t (grant-passes m i count alignOrder t e)

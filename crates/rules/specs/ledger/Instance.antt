@@ -6,10 +6,10 @@ use lib.Dec.{eqb}
 use lib.ListN.{replicate}
 use Rattle.frames.specs.Units.{frame}
 use Rattle.frames.specs.Tables.{Tables, tables}
-use Rattle.rules.specs.Declare.{Request}
-use Rattle.rules.specs.Record.{freshMachine}
-use Rattle.rules.specs.Calls.{putMovable, putFixed, dropPage, pinPage, unpinPage, storePage, readPage, grant, release, deviceStore, deviceRead, declare, boot}
-use Rattle.rules.specs.ledger.Runs.{Lent, own, another, Item, item, onOwn}
+use Rattle.rules.specs.declared.Call.the-variants as Call
+use Rattle.rules.specs.declared.Request.{Request}
+use Rattle.rules.specs.Record.{freshRecord}
+use Rattle.rules.specs.ledger.Lists.{Source, own, another, Item, itemWith, item, onOwn}
 use Rattle.rules.specs.ledger.Statement.{Boot}
 
 -- tables of 12 frames and 3 bitmap words, filled with a number
@@ -22,107 +22,107 @@ instanceBoot v =
     record {
       base = 4;
       frames = 12;
-      order = 2;
+      blockOrder = 2;
       text = 97 ∷ 61 ∷ 49 ∷ 54 ∷ 75 ∷ 64 ∷ 51 ∷ 50 ∷ 55 ∷ 54 ∷ 56 ∷ [];
-      given = freshMachine;
+      given = freshRecord;
       lent = tablesOf v;
     }
 
 abbrev pub anyFrames : Request
-anyFrames = record { base = 0; size = 1; limit = 0; alignment = 0; order = 0; fixed = false }
+anyFrames = record { base = 0; size = 1; limit = 0; alignment = 0; «order_per_bit» = 0; fixed = false }
 
 abbrev pub noFrames : Request
-noFrames = record { base = 0; size = 0; limit = 0; alignment = 0; order = 0; fixed = false }
+noFrames = record { base = 0; size = 0; limit = 0; alignment = 0; «order_per_bit» = 0; fixed = false }
 
 -- other tables of the right lengths, filled with a number, and one that is too short
-abbrev pub perFrame : ℕ → Lent
+abbrev pub perFrame : ℕ → Source
 perFrame v = another (replicate 12 v)
 
-abbrev pub perWord : ℕ → Lent
+abbrev pub perWord : ℕ → Source
 perWord v = another (replicate 3 v)
 
-abbrev pub empty : Lent
+abbrev pub empty : Source
 empty = another []
 
 -- a second area is declared at frames 12 to 15. Pages 1 to 4, of which 3 is fixed, take the ordinary frames 4 to 7, and 5 and 6 the area's 8 and 9.
 -- Page 5 is pinned, and page 6 no longer
 abbrev pub placed : List Item
 placed =
-    onOwn (declare anyFrames) ∷
-    onOwn (putMovable 1) ∷
-    onOwn (putMovable 2) ∷
-    onOwn (putFixed 3) ∷
-    onOwn (putMovable 4) ∷
-    onOwn (putMovable 5) ∷
-    onOwn (putMovable 6) ∷
-    onOwn (pinPage 5) ∷
-    onOwn (pinPage 6) ∷
-    onOwn (unpinPage 6) ∷
+    onOwn (Call.Declare anyFrames) ∷
+    onOwn (Call.PutMovable 1) ∷
+    onOwn (Call.PutMovable 2) ∷
+    onOwn (Call.PutFixed 3) ∷
+    onOwn (Call.PutMovable 4) ∷
+    onOwn (Call.PutMovable 5) ∷
+    onOwn (Call.PutMovable 6) ∷
+    onOwn (Call.Pin 5) ∷
+    onOwn (Call.Pin 6) ∷
+    onOwn (Call.Unpin 6) ∷
     []
 
 -- the stores in which two runs may differ: the second is refused, for page 5 is pinned, and so is the third, which is lent another bitmap
 abbrev pub stored : ℕ → List Item
 stored word =
-    onOwn (storePage 6 word) ∷
-    onOwn (storePage 5 word) ∷
-    item (storePage 6 word) own own empty ∷
+    onOwn (Call.Store 6 word) ∷
+    onOwn (Call.Store 5 word) ∷
+    item (Call.Store 6 word) own own empty ∷
     []
 
 -- every call, refused on the boot's own tables; the grant is of frame 9, whose page has nowhere to go
 abbrev pub refusedOnOwn : List Item
 refusedOnOwn =
-    onOwn (putMovable 1) ∷
-    onOwn (putFixed 7) ∷
-    onOwn (dropPage 5) ∷
-    onOwn (pinPage 5) ∷
-    onOwn (unpinPage 6) ∷
-    onOwn (storePage 7 1) ∷
-    onOwn (readPage 7) ∷
-    onOwn (grant 0 1 0) ∷
-    onOwn (release 1 (frame 12) 1) ∷
-    onOwn (deviceStore (frame 12) 1) ∷
-    onOwn (deviceRead (frame 16)) ∷
-    onOwn (declare noFrames) ∷
-    onOwn (boot 0 12 2 []) ∷
+    onOwn (Call.PutMovable 1) ∷
+    onOwn (Call.PutFixed 7) ∷
+    onOwn (Call.Drop 5) ∷
+    onOwn (Call.Pin 5) ∷
+    onOwn (Call.Unpin 6) ∷
+    onOwn (Call.Store 7 1) ∷
+    onOwn (Call.Read 7) ∷
+    onOwn (Call.Grant 0 1 0) ∷
+    onOwn (Call.Release 1 (frame 12) 1) ∷
+    onOwn (Call.DeviceStore (frame 12) 1) ∷
+    onOwn (Call.DeviceRead (frame 16)) ∷
+    onOwn (Call.Declare noFrames) ∷
+    onOwn (Call.Boot (frame 0) 12 2) ∷
     []
 
 -- every call, refused where one table that it is lent, or two, or all three are others: by what those hold, or by their lengths
 abbrev pub refusedOnOthers : List Item
 refusedOnOthers =
     -- marks of a fixed page 1 in every frame: no frame is free, and the name is live
-    item (putMovable 7) (perFrame 11) own own ∷
-    item (putFixed 1) (perFrame 11) own (perWord 0) ∷
+    item (Call.PutMovable 7) (perFrame 11) own own ∷
+    item (Call.PutFixed 1) (perFrame 11) own (perWord 0) ∷
     -- free frames alone: no such page
-    item (dropPage 6) (perFrame 0) (perFrame 0) own ∷
-    item (unpinPage 5) (perFrame 0) (perFrame 0) (perWord 0) ∷
+    item (Call.Drop 6) (perFrame 0) (perFrame 0) own ∷
+    item (Call.Unpin 5) (perFrame 0) (perFrame 0) (perWord 0) ∷
     -- the own marks, with other words or another bitmap: the page is pinned, no words, no bitmap, bits that are set, no room for a third area's bits
-    item (pinPage 5) own (perFrame 1) own ∷
-    item (storePage 1 1) own empty own ∷
-    item (readPage 6) own own empty ∷
-    item (grant 0 1 0) own own (perWord 15) ∷
-    item (declare anyFrames) own (perFrame 1) (another (0 ∷ 0 ∷ [])) ∷
+    item (Call.Pin 5) own (perFrame 1) own ∷
+    item (Call.Store 1 1) own empty own ∷
+    item (Call.Read 6) own own empty ∷
+    item (Call.Grant 0 1 0) own own (perWord 15) ∷
+    item (Call.Declare anyFrames) own (perFrame 1) (another (0 ∷ 0 ∷ [])) ∷
     -- marks that begin a grant of two frames, each of them; no grant; tables with no entries
-    item (release 0 (frame 9) 1) (perFrame 20) own own ∷
-    item (deviceStore (frame 9) 1) (perFrame 0) own (perWord 0) ∷
-    item (deviceRead (frame 9)) empty empty empty ∷
+    item (Call.Release 0 (frame 9) 1) (perFrame 20) own own ∷
+    item (Call.DeviceStore (frame 9) 1) (perFrame 0) own (perWord 0) ∷
+    item (Call.DeviceRead (frame 9)) empty empty empty ∷
     -- a text that starts with ;
-    item (boot 4 12 2 (59 ∷ [])) (perFrame 7) own (perWord 7) ∷
+    itemWith (Call.Boot (frame 4) 12 2) (59 ∷ []) (perFrame 7) own (perWord 7) ∷
     []
 
 -- page 2 leaves frame 5, so the grant now moves page 6 there from frame 9. The other area's grant is released again, once its two frames are counted
 abbrev pub granted : List Item
 granted =
-    onOwn (dropPage 2) ∷
-    onOwn (storePage 3 33) ∷
-    onOwn (grant 0 1 0) ∷
-    onOwn (grant 1 2 0) ∷
-    onOwn (deviceStore (frame 9) 55) ∷
-    onOwn (deviceStore (frame 13) 66) ∷
-    onOwn (release 1 (frame 12) 1) ∷
-    onOwn (release 1 (frame 12) 2) ∷
-    onOwn (readPage 6) ∷
-    onOwn (readPage 3) ∷
-    onOwn (deviceRead (frame 9)) ∷
+    onOwn (Call.Drop 2) ∷
+    onOwn (Call.Store 3 33) ∷
+    onOwn (Call.Grant 0 1 0) ∷
+    onOwn (Call.Grant 1 2 0) ∷
+    onOwn (Call.DeviceStore (frame 9) 55) ∷
+    onOwn (Call.DeviceStore (frame 13) 66) ∷
+    onOwn (Call.Release 1 (frame 12) 1) ∷
+    onOwn (Call.Release 1 (frame 12) 2) ∷
+    onOwn (Call.Read 6) ∷
+    onOwn (Call.Read 3) ∷
+    onOwn (Call.DeviceRead (frame 9)) ∷
     []
 
 abbrev pub afterStores : List Item

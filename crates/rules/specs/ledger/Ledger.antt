@@ -1,13 +1,11 @@
--- Document 01, "The ledger of demand 3": what the ledger holds, and what each accepted call changes in it. It is fed each call with its arguments,
--- whether it was refused, and the frame a grant answers, and nothing else.
+-- Document 01, "The ledger of demand 3": what the ledger holds, and the changes made in it. Which call makes which is in Roles.antt.
 use Prim.Native.Nat.{ℕ, _+_}
-use mathlib.Core.Bool.{Bool, true, false, _&&_, _||_}
+use mathlib.Core.Bool.{Bool, false, _&&_, _||_}
 use mathlib.Core.List.{List, [], _∷_}
 use lib.Dec.{leb, ltb, eqb}
 use Rattle.search.specs.Choice.{if_then_else_}
 use Rattle.frames.specs.declared.Frame.{Frame}
 use Rattle.frames.specs.Units.{frame}
-use Rattle.rules.specs.Calls.{Call, putMovable, putFixed, dropPage, pinPage, unpinPage, storePage, readPage, grant, release, deviceStore, deviceRead, declare, boot}
 
 -- a live grant: its first physical frame and its count
 pub record Grant : Type 0 where
@@ -89,25 +87,14 @@ withGrants l grants deviceWord granted released =
       released = released;
     }
 
--- what an accepted call changes; `answered` is the frame that a grant answers, and no other call's entry looks at it
-abbrev pub entry : Call → ℕ → Ledger → Ledger
-entry (putMovable name) answered l = withPage l name true false 0
-entry (putFixed name) answered l = withPage l name true false 0
-entry (dropPage name) answered l = withPage l name false (l .pinned name) (l .word name)
-entry (pinPage name) answered l = withPage l name (l .live name) true (l .word name)
-entry (unpinPage name) answered l = withPage l name (l .live name) false (l .word name)
-entry (storePage name word) answered l = withPage l name (l .live name) (l .pinned name) word
-entry (readPage name) answered l = l
-entry (grant area count order) answered l =
-    let g = grantOf (frame answered) count in
-    withGrants l (g ∷ l .grants) (λ f. if takes g (frame f) then 0 else l .deviceWord f) (l .granted + count) (l .released)
-entry (release area f count) answered l =
-    withGrants l (without (l .grants) (grantOf f count)) (l .deviceWord) (l .granted) (l .released + count)
-entry (deviceStore f word) answered l = withGrants l (l .grants) (update (l .deviceWord) (f .0) word) (l .granted) (l .released)
-entry (deviceRead f) answered l = l
-entry (declare request) answered l = l
-entry (boot base frames order text) answered l = l
+-- a live grant more, its frames' words 0; the total granted rises by its count
+abbrev pub withGrant : Ledger → Grant → Ledger
+withGrant l g =
+    withGrants l (g ∷ l .grants) (λ f. if takes g (frame f) then 0 else l .deviceWord f) (l .granted + g .count) (l .released)
 
--- the ledger is fed a call, whether it was refused, and the frame it answers; refused calls change nothing
-abbrev pub fed : Call → Bool → ℕ → Ledger → Ledger
-fed call refused answered l = if refused then l else entry call answered l
+-- the live grant ends; the total released rises by its count
+abbrev pub endGrant : Ledger → Grant → Ledger
+endGrant l g = withGrants l (without (l .grants) g) (l .deviceWord) (l .granted) (l .released + g .count)
+
+abbrev pub withDeviceWord : Ledger → Frame → ℕ → Ledger
+withDeviceWord l f word = withGrants l (l .grants) (update (l .deviceWord) (f .0) word) (l .granted) (l .released)

@@ -1,9 +1,9 @@
 -- Demand 3, as one theorem: what holds after every list of page calls, device calls, declares and refused boots that follows one accepted boot.
--- It speaks of the calls by `perform`, the contracts' own definitions. The ledger is in Ledger.antt; the lists, what they leave and which are
--- admitted are in Runs.antt. The theorem, at the end, has five parts, numbered here.
+-- It speaks of the calls by `perform`, the contracts' own definitions. The ledger is in Ledger.antt, and what each call is to it in
+-- Roles.antt; the lists, what they leave and which are admitted are in Lists.antt. The theorem, at the end, has five parts, numbered here.
 use Prim.Native.Nat.{ℕ, _+_, _≤_, _<_}
 use mathlib.Core.Bool.{Bool, true, false, not}
-use mathlib.Core.List.{List}
+use mathlib.Core.List.{List, []}
 use mathlib.Core.Logic.{_≢_}
 use mathlib.Core.Path.{_≡_}
 use lib.Dec.{ltb}
@@ -12,19 +12,21 @@ use Rattle.frames.specs.declared.Frame.{Frame}
 use Rattle.frames.specs.Units.{frame, place}
 use Rattle.frames.specs.Marks.{kindOf, markOf, isPageOf, isGranted, pinned}
 use Rattle.frames.specs.Tables.{Tables, markAt, wordAt}
-use Rattle.rules.specs.Record.{Machine, placeOf, frameAt, endFrame}
+use Rattle.rules.specs.declared.Call.the-variants as Call
+use Rattle.rules.specs.declared.Record.{Record}
+use Rattle.rules.specs.Record.{placeOf, frameAt, endFrame}
 use Rattle.rules.specs.Outcomes.{Outcome}
-use Rattle.rules.specs.Calls.{readPage, deviceRead, boot, perform}
+use Rattle.rules.specs.Calls.{perform}
 use Rattle.rules.specs.promises.Changes.{SameLengths}
 use Rattle.rules.specs.ledger.Ledger.{grantsAt}
-use Rattle.rules.specs.ledger.Runs.{Item, State, isRefused, startOf, after, admitted, frameOfPage, lastPinFrame, SameList, seenAnswers}
+use Rattle.rules.specs.ledger.Lists.{Item, State, isRefused, startOf, after, admitted, frameOfPage, lastPinFrame, SameList, seenAnswers}
 
 -- a read is made with the record and the tables that the list left
 abbrev pub pageRead : State → ℕ → Outcome
-pageRead s name = perform (readPage name) (s .machine) (s .own)
+pageRead s name = perform (Call.Read name) [] (s .machine) (s .own)
 
 abbrev pub frameRead : State → Frame → Outcome
-frameRead s f = perform (deviceRead f) (s .machine) (s .own)
+frameRead s f = perform (Call.DeviceRead f) [] (s .machine) (s .own)
 
 -- the mark at a table place is of kind 4 or 5; a live grant of the ledger has the frame
 abbrev pub isGrantedPlace : State → ℕ → Bool
@@ -43,7 +45,7 @@ pub record ReadsRight (s : State) : Type 0 where
       s .ledger .live name ≡ true → isPageOf name (markAt (s .own) (placeOf (s .machine) (frame (pageRead s name .answer .first)))) ≡ true
   pub onlyFrame :
       (name p : ℕ) →
-      p < s .machine .frames →
+      p < s .machine .memory .frames →
       isPageOf name (markAt (s .own) (place p)) ≡ true → frameAt (s .machine) (place p) .0 ≡ pageRead s name .answer .first
 
 -- (2) a page that the ledger has as pinned is live, and the mark at its frame, which lies in memory, has its name and kind 2; no other live page
@@ -54,7 +56,7 @@ markOfPage s name = markAt (s .own) (placeOf (s .machine) (frame (frameOfPage s 
 pub record PinsRight (s : State) : Type 0 where
   pub live : (name : ℕ) → s .ledger .pinned name ≡ true → s .ledger .live name ≡ true
   pub inside :
-      (name : ℕ) → s .ledger .pinned name ≡ true → (s .machine .base .0 ≤ frameOfPage s name) × (frameOfPage s name < endFrame (s .machine))
+      (name : ℕ) → s .ledger .pinned name ≡ true → (s .machine .memory .base .0 ≤ frameOfPage s name) × (frameOfPage s name < endFrame (s .machine))
   pub marked : (name : ℕ) → s .ledger .pinned name ≡ true → markOfPage s name ≡ markOf name pinned
   pub unmarked : (name : ℕ) → s .ledger .live name ≡ true → s .ledger .pinned name ≡ false → kindOf (markOfPage s name) ≢ pinned
 
@@ -68,9 +70,9 @@ pub record PinsStay (start : State) (items : List Item) : Type 0 where
 -- granted less the frames released
 pub record GrantsRight (s : State) : Type 0 where
   pub apart : (f : Frame) → grantsAt (s .ledger .grants) f ≤ 1
-  pub inside : (f : Frame) → isLiveFrame s f ≡ true → (s .machine .base .0 ≤ f .0) × (f .0 < endFrame (s .machine))
-  pub marked : (p : ℕ) → p < s .machine .frames → isGrantedPlace s p ≡ isLiveFrame s (frameAt (s .machine) (place p))
-  pub total : howMany (isGrantedPlace s) 0 (s .machine .frames) + s .ledger .released ≡ s .ledger .granted
+  pub inside : (f : Frame) → isLiveFrame s f ≡ true → (s .machine .memory .base .0 ≤ f .0) × (f .0 < endFrame (s .machine))
+  pub marked : (p : ℕ) → p < s .machine .memory .frames → isGrantedPlace s p ≡ isLiveFrame s (frameAt (s .machine) (place p))
+  pub total : howMany (isGrantedPlace s) 0 (s .machine .memory .frames) + s .ledger .released ≡ s .ledger .granted
 
 -- (4) each frame of a live grant holds the ledger's word for it; a device read is accepted just for these frames, and gives it
 pub record DeviceWordsRight (s : State) : Type 0 where
@@ -87,13 +89,13 @@ pub record RunsAgree (start start′ : State) (items : List Item) : Type 0 where
 pub record Boot : Type 0 where
   pub base : ℕ
   pub frames : ℕ
-  pub order : ℕ
+  pub blockOrder : ℕ
   pub text : List ℕ
-  pub given : Machine
+  pub given : Record
   pub lent : Tables
 
 abbrev pub outcomeOfBoot : Boot → Outcome
-outcomeOfBoot b = perform (boot (b .base) (b .frames) (b .order) (b .text)) (b .given) (b .lent)
+outcomeOfBoot b = perform (Call.Boot (frame (b .base)) (b .frames) (b .blockOrder)) (b .text) (b .given) (b .lent)
 
 abbrev pub startOfBoot : Boot → State
 startOfBoot b = startOf (outcomeOfBoot b)
@@ -102,7 +104,7 @@ startOfBoot b = startOf (outcomeOfBoot b)
 pub record SameBoot (b c : Boot) : Type 0 where
   pub base : b .base ≡ c .base
   pub frames : b .frames ≡ c .frames
-  pub order : b .order ≡ c .order
+  pub blockOrder : b .blockOrder ≡ c .blockOrder
   pub text : b .text ≡ c .text
   pub lengths : SameLengths (b .lent) (c .lent)
 

@@ -1,5 +1,5 @@
 -- Everything that the calls promise, in one list.
-use Rattle.rules.specs.promises.Bitmaps.{BitmapLayout}
+use Rattle.rules.specs.promises.Bitmaps.{AreaLayout, BitmapLayout}
 use Rattle.rules.specs.promises.Boots.{BootLooksAtLengths, AcceptedBoot}
 use Rattle.rules.specs.promises.Declares.{BaseZeroCancelsFixed, DeclareTakesHighest, AcceptedDeclare, DeclareKeepsShape}
 use Rattle.rules.specs.promises.Devices.{AcceptedDeviceStore, AcceptedDeviceRead}
@@ -10,15 +10,17 @@ use Rattle.rules.specs.promises.Pages.{AcceptedPutMovable, AcceptedPutFi
 use Rattle.rules.specs.promises.Releases.{AcceptedRelease, FreedRoomIsUsed}
 use Rattle.rules.specs.promises.Rounded.{AmountsRound, LimitRounds}
 use Rattle.rules.specs.promises.Shapes.{ShapeIsRight}
-use Rattle.rules.specs.promises.Unchanged.{RefusalChangesNothing}
+use Rattle.rules.specs.promises.Unchanged.{RefusalChangesNothing, TextIsBoots}
 
 pub record AllPromises : Type 0 where
   pub shape : ShapeIsRight
+  pub areas : AreaLayout
   pub bitmaps : BitmapLayout
   pub numbers : RefusedExactly
   pub refusal-zeros : RefusalHasZeros
   pub boot-place : BootAnswersPlace
   pub refusal : RefusalChangesNothing
+  pub text : TextIsBoots
   pub put-movable : AcceptedPutMovable
   pub put-fixed : AcceptedPutFixed
   pub live : LiveIfStands

@@ -7,19 +7,19 @@ use Rattle.frames.specs.declared.Frame.{Frame}
 use Rattle.frames.specs.Units.{place}
 use Rattle.frames.specs.Marks.{head, later}
 use Rattle.frames.specs.Tables.{Tables, markAt, wordAt}
-use Rattle.rules.specs.Record.{Machine}
+use Rattle.rules.specs.declared.Record.{Record}
 use Rattle.rules.specs.Outcomes.{Outcome, outcome}
 use Rattle.rules.specs.DeviceCalls.{deviceStore, deviceRead}
 use Rattle.rules.specs.promises.Changes.{kindAt, OnlyPage}
 
 -- the frame lies in memory, at place p, and is one of a grant's: its first or a later one
-pub record GrantedAt (m : Machine) (t : Tables) (f : Frame) (p : ℕ) : Type 0 where
-  pub at : f .0 ≡ m .base .0 + p
-  pub in-memory : p < m .frames
+pub record GrantedAt (m : Record) (t : Tables) (f : Frame) (p : ℕ) : Type 0 where
+  pub at : f .0 ≡ m .memory .base .0 + p
+  pub in-memory : p < m .memory .frames
   pub granted : (kindAt t p ≡ head) ⊎ (kindAt t p ≡ later)
 
 -- a store makes the word the frame's, and changes nothing else
-pub record DeviceStoreDoes (m : Machine) (f : Frame) (word : ℕ) (t : Tables) (o : Outcome) (p : ℕ) : Type 0 where
+pub record DeviceStoreDoes (m : Record) (f : Frame) (word : ℕ) (t : Tables) (o : Outcome) (p : ℕ) : Type 0 where
   pub place-of : GrantedAt m t f p
   pub answer : o .answer ≡ done 0 0
   pub page : OnlyPage t (o .left) p (markAt t (place p)) word
@@ -27,13 +27,13 @@ pub record DeviceStoreDoes (m : Machine) (f : Frame) (word : ℕ) (t : Tables) (
 
 abbrev pub AcceptedDeviceStore : Type 0
 AcceptedDeviceStore =
-    (m : Machine) (f : Frame) (word : ℕ) (t : Tables) →
+    (m : Record) (f : Frame) (word : ℕ) (t : Tables) →
     let o = deviceStore m f word t in
     o .answer .refusal ≡ 0 → (p : ℕ) × DeviceStoreDoes m f word t o p
 
 -- a read answers the frame's word, and leaves record and tables as they were
 abbrev pub AcceptedDeviceRead : Type 0
 AcceptedDeviceRead =
-    (m : Machine) (f : Frame) (t : Tables) →
+    (m : Record) (f : Frame) (t : Tables) →
     let o = deviceRead m f t in
     o .answer .refusal ≡ 0 → (p : ℕ) × GrantedAt m t f p × (o ≡ outcome m (done (wordAt t (place p)) 0) t)

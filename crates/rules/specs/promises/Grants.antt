@@ -11,11 +11,12 @@ use Rattle.frames.specs.Units.{place, bit}
 use Rattle.frames.specs.Marks.{free, movable}
 use Rattle.frames.specs.Areas.{bitCount, bitsFor, frameOfBit}
 use Rattle.frames.specs.Tables.{Tables}
-use Rattle.rules.specs.Record.{Machine, areaAt}
-use Rattle.rules.specs.Limits.{mostAlignment}
+use Rattle.rules.specs.declared.Record.{Record}
+use Rattle.rules.specs.Record.{areaAt}
+use Rattle.rules.specs.Limits.{mostAlignOrder}
 use Rattle.rules.specs.Shape.{shapeWrong}
 use Rattle.rules.specs.PageCalls.{freeOrdinary}
-use Rattle.rules.specs.DeviceCalls.{noArea, bitmapOf, placeOfBit, grant}
+use Rattle.rules.specs.DeviceCalls.{isUnknown, bitmapOf, placeOfBit, grant}
 use Rattle.rules.specs.promises.Changes.{kindAt}
 
 -- how many of the d frames from place p on hold a movable page, of kind 1
@@ -23,13 +24,13 @@ abbrev pub movableIn : Tables → ℕ → ℕ → ℕ
 movableIn t p d = howMany (λ q. eqb (kindAt t q) 1) p d
 
 -- how many frames below place r are free and ordinary
-abbrev pub freeBelow : Machine → Tables → ℕ → ℕ
+abbrev pub freeBelow : Record → Tables → ℕ → ℕ
 freeBelow m t r = howMany (λ q. freeOrdinary m t (place q)) 0 r
 
-module _ (m : Machine) (t : Tables) (i count order : ℕ) where
-  -- bit j of area i starts a candidate: its physical frame is a multiple of 2^order, and its bits lie in the area and are clear
+module _ (m : Record) (t : Tables) (i count alignOrder : ℕ) where
+  -- bit j of area i starts a candidate: its physical frame is a multiple of 2^alignOrder, and its bits lie in the area and are clear
   pub record Candidate (j : ℕ) : Type 0 where
-    pub aligned : frameOfBit (areaAt m i) (bit j) .0 % 2 ^ order ≡ 0
+    pub aligned : frameOfBit (areaAt m i) (bit j) .0 % 2 ^ alignOrder ≡ 0
     pub inside : j + bitsFor (areaAt m i) count ≤ bitCount (areaAt m i)
     pub clear : (k : ℕ) → j ≤ k → k < j + bitsFor (areaAt m i) count → isClear (t .bitmap) (bitmapOf m i) k ≡ true
 
@@ -53,23 +54,23 @@ module _ (m : Machine) (t : Tables) (i count order : ℕ) where
 
   -- the first grantable candidate has more movable frames than there are free ordinary frames
   abbrev pub NoTargets : Type 0
-  NoTargets = (j : ℕ) × FirstGrantable j × (freeBelow m t (m .frames) < moved j)
+  NoTargets = (j : ℕ) × FirstGrantable j × (freeBelow m t (m .memory .frames) < moved j)
 
   -- the checks before the search pass
   pub record Asked : Type 0 where
     pub shape : shapeWrong m t ≡ false
-    pub arguments : (noArea m i || eqb count 0 || ltb mostAlignment order) ≡ false
+    pub arguments : (isUnknown (m .memory) i || eqb count 0 || ltb mostAlignOrder alignOrder) ≡ false
 
   pub record GrantAnswers : Type 0 where
     -- accepted with frame f and n moved just if the first grantable candidate has that frame and n movable frames, and n or more free ordinary
     -- frames are there
     pub accepted :
         (f n : ℕ) →
-        (grant m i count order t .answer ≡ done f n) ↔
-        ((j : ℕ) × FirstGrantable j × (frameOfBit (areaAt m i) (bit j) .0 ≡ f) × (moved j ≡ n) × (n ≤ freeBelow m t (m .frames)))
+        (grant m i count alignOrder t .answer ≡ done f n) ↔
+        ((j : ℕ) × FirstGrantable j × (frameOfBit (areaAt m i) (bit j) .0 ≡ f) × (moved j ≡ n) × (n ≤ freeBelow m t (m .memory .frames)))
     -- 7 exactly if there is no run, 8 exactly if the pages of the first have nowhere to go
-    pub no-run : (grant m i count order t .answer .refusal ≡ 7) ↔ NoRun
-    pub no-target : (grant m i count order t .answer .refusal ≡ 8) ↔ NoTargets
+    pub no-run : (grant m i count alignOrder t .answer .refusal ≡ 7) ↔ NoRun
+    pub no-target : (grant m i count alignOrder t .answer .refusal ≡ 8) ↔ NoTargets
 
 abbrev pub GrantIsFirstFit : Type 0
-GrantIsFirstFit = (m : Machine) (t : Tables) (i count order : ℕ) → Asked m t i count order → GrantAnswers m t i count order
+GrantIsFirstFit = (m : Record) (t : Tables) (i count alignOrder : ℕ) → Asked m t i count alignOrder → GrantAnswers m t i count alignOrder

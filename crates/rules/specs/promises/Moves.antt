@@ -7,7 +7,8 @@ use Rattle.frames.specs.Units.{place, bit}
 use Rattle.frames.specs.Marks.{markOf, hasKind, movable, head, later}
 use Rattle.frames.specs.Areas.{perBit, bitsFor, frameOfBit}
 use Rattle.frames.specs.Tables.{Tables, markAt, wordAt}
-use Rattle.rules.specs.Record.{Machine, areaAt}
+use Rattle.rules.specs.declared.Record.{Record}
+use Rattle.rules.specs.Record.{areaAt}
 use Rattle.rules.specs.Outcomes.{Outcome}
 use Rattle.rules.specs.PageCalls.{freeOrdinary}
 use Rattle.rules.specs.DeviceCalls.{bitmapOf, grant}
@@ -19,19 +20,19 @@ abbrev pub moversBefore : Tables → ℕ → ℕ → ℕ
 moversBefore t p q = movableIn t p (q - p)
 
 -- the page at q stands at r now, with its mark and word, and r is the free ordinary frame of the same rank: the k-th mover goes to the k-th lowest
-pub record MovesTo (m : Machine) (t t′ : Tables) (p q r : ℕ) : Type 0 where
+pub record MovesTo (m : Record) (t t′ : Tables) (p q r : ℕ) : Type 0 where
   pub was-free : freeOrdinary m t (place r) ≡ true
-  pub in-memory : r < m .frames
+  pub in-memory : r < m .memory .frames
   pub in-order : freeBelow m t r ≡ moversBefore t p q
   pub mark : markAt t′ (place r) ≡ markAt t (place q)
   pub word : wordAt t′ (place r) ≡ wordAt t (place q)
 
 -- what a grant of the run of `count` frames at place p, whose first bit is j, leaves of the tables t
-module _ (m : Machine) (i count : ℕ) (t : Tables) where
+module _ (m : Record) (i count : ℕ) (t : Tables) where
   pub record GrantDoes (o : Outcome) (p j : ℕ) : Type 0 where
-    pub answer : o .answer ≡ done (m .base .0 + p) (movableIn t p count)
-    pub on-bit : frameOfBit (areaAt m i) (bit j) .0 ≡ m .base .0 + p
-    pub in-memory : p + count ≤ m .frames
+    pub answer : o .answer ≡ done (m .memory .base .0 + p) (movableIn t p count)
+    pub on-bit : frameOfBit (areaAt m i) (bit j) .0 ≡ m .memory .base .0 + p
+    pub in-memory : p + count ≤ m .memory .frames
     pub machine : o .machine ≡ m
     pub lengths : SameLengths t (o .left)
     -- each movable page of the run moves, in order
@@ -51,6 +52,6 @@ module _ (m : Machine) (i count : ℕ) (t : Tables) where
 
 abbrev pub AcceptedGrant : Type 0
 AcceptedGrant =
-    (m : Machine) (i count order : ℕ) (t : Tables) →
-    let o = grant m i count order t in
+    (m : Record) (i count alignOrder : ℕ) (t : Tables) →
+    let o = grant m i count alignOrder t in
     o .answer .refusal ≡ 0 → (p : ℕ) × (j : ℕ) × GrantDoes m i count t o p j

@@ -5,16 +5,21 @@ use mathlib.Core.Path.{_≡_}
 use mathlib.Core.Logic.{_⊎_, _↔_, _≢_}
 use mathlib.Core.List.{List, [], _∷_}
 use lib.ListN.{length}
+use Rattle.frames.specs.declared.Frame.{Frame}
 use Rattle.frames.specs.Areas.{firstWord}
 use Rattle.frames.specs.Tables.{Tables}
 use Rattle.regions.specs.declared.Region.{Region}
-use Rattle.regions.specs.Reading.{gives, refuses}
+use Rattle.text.specs.Reading.{gives, refuses}
 use Rattle.regions.specs.Text.{regions}
-use Rattle.rules.specs.Record.{Machine, areaAt}
-use Rattle.rules.specs.Declare.{Request, sizeFor}
+use Rattle.rules.specs.declared.Call.{Call}
+use Rattle.rules.specs.declared.Call.the-variants as Call
+use Rattle.rules.specs.declared.Request.{Request}
+use Rattle.rules.specs.declared.Record.{Record}
+use Rattle.rules.specs.Record.{bareRecord, areaAt}
+use Rattle.rules.specs.Declare.{sizeFor}
 use Rattle.rules.specs.Declare as Declare
-use Rattle.rules.specs.Boot.{bareMachine, zeroTables}
-use Rattle.rules.specs.Calls.{Call, putMovable, putFixed, dropPage, pinPage, unpinPage, storePage, readPage, grant, release, deviceStore, deviceRead, declare, boot, perform}
+use Rattle.rules.specs.Boot.{zeroTables}
+use Rattle.rules.specs.Calls.{perform}
 use Rattle.rules.specs.promises.Boots.{regionRequest}
 use Rattle.rules.specs.promises.Changes.{kindAt, fieldAt}
 use Rattle.rules.specs.promises.Declares.{AtBase, Anywhere, RangeOutside, RangeTaken, NoPlace}
@@ -33,50 +38,50 @@ accepted n = n ≡ 0
 
 -- ---- The conditions
 
-abbrev pub WrongShape : Machine → Tables → Type 0
+abbrev pub WrongShape : Record → Tables → Type 0
 WrongShape m t = RightShape m t → ⊥
 
 -- page names are 1 to 536,870,911
 abbrev pub BadName : ℕ → Type 0
 BadName name = (name < 1) ⊎ (536870911 < name)
 
-abbrev pub NotLive : Machine → Tables → ℕ → Type 0
+abbrev pub NotLive : Record → Tables → ℕ → Type 0
 NotLive m t name = Live m t name → ⊥
 
 -- the page's kind: when its name stands twice, the lowest frame is meant
-abbrev pub PageIs : ℕ → Machine → Tables → ℕ → Type 0
+abbrev pub PageIs : ℕ → Record → Tables → ℕ → Type 0
 PageIs kind m t name = (p : ℕ) × Lowest (Stands m t name) p × (kindAt t p ≡ kind)
 
-abbrev pub PageIsNot : ℕ → Machine → Tables → ℕ → Type 0
+abbrev pub PageIsNot : ℕ → Record → Tables → ℕ → Type 0
 PageIsNot kind m t name = PageIs kind m t name → ⊥
 
-abbrev pub NoneFree : Machine → Tables → Type 0
-NoneFree m t = (p : ℕ) → p < m .frames → kindAt t p ≡ 0 → ⊥
+abbrev pub NoneFree : Record → Tables → Type 0
+NoneFree m t = (p : ℕ) → p < m .memory .frames → kindAt t p ≡ 0 → ⊥
 
 -- an unknown area, count 0, or an alignment order above 16
-abbrev pub BadGrant : Machine → ℕ → ℕ → ℕ → Type 0
-BadGrant m i count order = (m .declared ≤ i) ⊎ (count ≡ 0) ⊎ (16 < order)
+abbrev pub BadGrant : Record → ℕ → ℕ → ℕ → Type 0
+BadGrant m i count alignOrder = (m .memory .declared ≤ i) ⊎ (count ≡ 0) ⊎ (16 < alignOrder)
 
 -- an unknown area, count 0, or a range not inside the area
-abbrev pub BadRelease : Machine → ℕ → ℕ → ℕ → Type 0
+abbrev pub BadRelease : Record → ℕ → ℕ → ℕ → Type 0
 BadRelease m i f count =
-    (m .declared ≤ i) ⊎ (count ≡ 0) ⊎ (f < areaAt m i .base .0) ⊎ (areaAt m i .base .0 + areaAt m i .count < f + count)
+    (m .memory .declared ≤ i) ⊎ (count ≡ 0) ⊎ (f < areaAt m i .base .0) ⊎ (areaAt m i .base .0 + areaAt m i .count < f + count)
 
 -- the frame is off a bit boundary, or not the first of a grant
-abbrev pub NoGrant : Machine → Tables → ℕ → ℕ → Type 0
-NoGrant m t i f = ((f - areaAt m i .base .0) % 2 ^ areaAt m i .order ≢ 0) ⊎ (kindAt t (f - m .base .0) ≢ 4)
+abbrev pub NoGrant : Record → Tables → ℕ → ℕ → Type 0
+NoGrant m t i f = ((f - areaAt m i .base .0) % 2 ^ areaAt m i .«order_per_bit» ≢ 0) ⊎ (kindAt t (f - m .memory .base .0) ≢ 4)
 
 -- the field is not the count, or a later frame of the range is not of kind 5
-abbrev pub Disagrees : Machine → Tables → ℕ → ℕ → Type 0
+abbrev pub Disagrees : Record → Tables → ℕ → ℕ → Type 0
 Disagrees m t f count =
-    (fieldAt t (f - m .base .0) ≢ count) ⊎
-    ((p : ℕ) × (f - m .base .0 < p) × (p < f - m .base .0 + count) × (kindAt t p ≢ 5))
+    (fieldAt t (f - m .memory .base .0) ≢ count) ⊎
+    ((p : ℕ) × (f - m .memory .base .0 < p) × (p < f - m .memory .base .0 + count) × (kindAt t p ≢ 5))
 
-abbrev pub OutsideMemory : Machine → ℕ → Type 0
-OutsideMemory m f = (f < m .base .0) ⊎ (m .base .0 + m .frames ≤ f)
+abbrev pub OutsideMemory : Record → ℕ → Type 0
+OutsideMemory m f = (f < m .memory .base .0) ⊎ (m .memory .base .0 + m .memory .frames ≤ f)
 
-abbrev pub NotGranted : Machine → Tables → ℕ → Type 0
-NotGranted m t f = (kindAt t (f - m .base .0) ≡ 4) ⊎ (kindAt t (f - m .base .0) ≡ 5) → ⊥
+abbrev pub NotGranted : Record → Tables → ℕ → Type 0
+NotGranted m t f = (kindAt t (f - m .memory .base .0) ≡ 4) ⊎ (kindAt t (f - m .memory .base .0) ≡ 5) → ⊥
 
 -- an amount passes 2^48, the size is 0, or the alignment is neither 0 nor a power of two
 abbrev pub BadAmounts : Request → Type 0
@@ -88,25 +93,25 @@ BadAmounts r =
     (r .size ≡ 0) ⊎ ((r .alignment ≡ 0) ⊎ ((k : ℕ) × (r .alignment ≡ 2 ^ k)) → ⊥)
 
 -- the words of the areas and of the new one, with a bit for each 2^k of its pages, are more than the bitmap has
-abbrev pub ShortBitmap : Machine → Request → Tables → Type 0
+abbrev pub ShortBitmap : Record → Request → Tables → Type 0
 ShortBitmap m r t =
-    length (t .bitmap) < firstWord (m .areas) (m .declared) + (sizeFor m r / 4096 / 2 ^ r .order + 63) / 64
+    length (t .bitmap) < firstWord (m .areas) (m .memory .declared) + (sizeFor m r / 4096 / 2 ^ r .«order_per_bit» + 63) / 64
 
 -- ---- The numbers of each call, in the order written
 
-abbrev pub declareRefusal : Request → Machine → Tables → ℕ → Type 0
+abbrev pub declareRefusal : Request → Record → Tables → ℕ → Type 0
 declareRefusal r m t =
     WrongShape m t answers 1 otherwise
-    8 ≤ m .declared answers 10 otherwise
+    8 ≤ m .memory .declared answers 10 otherwise
     BadAmounts r answers 2 otherwise
-    m .order < r .order answers 11 otherwise
+    m .memory .«block_order» < r .«order_per_bit» answers 11 otherwise
     ShortBitmap m r t answers 14 otherwise
     (AtBase m r × RangeOutside m r) answers 13 otherwise
     (AtBase m r × RangeTaken m r t) answers 12 otherwise
     (Anywhere m r × NoPlace m r t) answers 13 otherwise accepted
 
 -- the regions are declared in turn: the first that is refused gives its number and, as the place, its index
-abbrev pub RegionsAnswer : List Region → ℕ → Machine → Tables → ℕ → ℕ → Type 0
+abbrev pub RegionsAnswer : List Region → ℕ → Record → Tables → ℕ → ℕ → Type 0
 RegionsAnswer [] i m t n at = (n ≡ 0) × (at ≡ 0)
 RegionsAnswer (r ∷ rs) i m t n at =
     ((n ≢ 0) × declareRefusal (regionRequest r) m t n × (at ≡ i)) ⊎
@@ -117,86 +122,88 @@ RegionsAnswer (r ∷ rs) i m t n at =
 -- 1 at place 0 if P, n, b or the length of marks or words is wrong; then the text's own refusal and place; then the regions', which are declared
 -- as if every frame were free
 abbrev pub BootAnswers : ℕ → ℕ → ℕ → List ℕ → Tables → ℕ → ℕ → Type 0
-BootAnswers base frames order text t n at =
-    let Right = RightMemory base frames order × RightLengths frames t in
+BootAnswers base frames blockOrder text t n at =
+    let Right = RightMemory base frames blockOrder × RightLengths frames t in
     ((Right → ⊥) × (n ≡ 1) × (at ≡ 0)) ⊎
     (Right ×
     ((regions text ≡ refuses n at) ⊎
-    ((rs : List Region) × (end : ℕ) × (regions text ≡ gives rs end) × RegionsAnswer rs 0 (bareMachine base frames order) (zeroTables t) n at)))
+    ((rs : List Region) × (end : ℕ) × (regions text ≡ gives rs end) × RegionsAnswer rs 0 (bareRecord base frames blockOrder) (zeroTables t) n at)))
 
-abbrev pub refusalOf : Call → Machine → Tables → ℕ → Type 0
-refusalOf (putMovable name) m t =
+abbrev pub refusalOf : Call → List ℕ → Record → Tables → ℕ → Type 0
+refusalOf (Call.PutMovable name) text m t =
     WrongShape m t answers 1 otherwise
     BadName name answers 2 otherwise
     Live m t name answers 4 otherwise
     NoneFree m t answers 6 otherwise accepted
-refusalOf (putFixed name) m t =
+refusalOf (Call.PutFixed name) text m t =
     WrongShape m t answers 1 otherwise
     BadName name answers 2 otherwise
     Live m t name answers 4 otherwise
     NoneFreeOrdinary m t answers 6 otherwise accepted
-refusalOf (dropPage name) m t =
+refusalOf (Call.Drop name) text m t =
     WrongShape m t answers 1 otherwise
     BadName name answers 2 otherwise
     NotLive m t name answers 3 otherwise
     PageIs 2 m t name answers 5 otherwise accepted
-refusalOf (pinPage name) m t =
+refusalOf (Call.Pin name) text m t =
     WrongShape m t answers 1 otherwise
     BadName name answers 2 otherwise
     NotLive m t name answers 3 otherwise
     PageIsNot 1 m t name answers 5 otherwise accepted
-refusalOf (unpinPage name) m t =
+refusalOf (Call.Unpin name) text m t =
     WrongShape m t answers 1 otherwise
     BadName name answers 2 otherwise
     NotLive m t name answers 3 otherwise
     PageIsNot 2 m t name answers 5 otherwise accepted
-refusalOf (storePage name word) m t =
+refusalOf (Call.Store name word) text m t =
     WrongShape m t answers 1 otherwise
     BadName name answers 2 otherwise
     NotLive m t name answers 3 otherwise
     PageIs 2 m t name answers 5 otherwise accepted
-refusalOf (readPage name) m t =
+refusalOf (Call.Read name) text m t =
     WrongShape m t answers 1 otherwise
     BadName name answers 2 otherwise
     NotLive m t name answers 3 otherwise accepted
-refusalOf (grant i count order) m t =
+refusalOf (Call.Grant i count alignOrder) text m t =
     WrongShape m t answers 1 otherwise
-    BadGrant m i count order answers 2 otherwise
-    NoRun m t i count order answers 7 otherwise
-    NoTargets m t i count order answers 8 otherwise accepted
-refusalOf (release i f count) m t =
+    BadGrant m i count alignOrder answers 2 otherwise
+    NoRun m t i count alignOrder answers 7 otherwise
+    NoTargets m t i count alignOrder answers 8 otherwise accepted
+refusalOf (Call.Release i f count) text m t =
     WrongShape m t answers 1 otherwise
     BadRelease m i (f .0) count answers 2 otherwise
     NoGrant m t i (f .0) answers 3 otherwise
     Disagrees m t (f .0) count answers 9 otherwise accepted
-refusalOf (deviceStore f word) m t =
+refusalOf (Call.DeviceStore f word) text m t =
     WrongShape m t answers 1 otherwise
     OutsideMemory m (f .0) answers 2 otherwise
     NotGranted m t (f .0) answers 3 otherwise accepted
-refusalOf (deviceRead f) m t =
+refusalOf (Call.DeviceRead f) text m t =
     WrongShape m t answers 1 otherwise
     OutsideMemory m (f .0) answers 2 otherwise
     NotGranted m t (f .0) answers 3 otherwise accepted
-refusalOf (declare r) m t = declareRefusal r m t
-refusalOf (boot base frames order text) m t = λ n. (at : ℕ) × BootAnswers base frames order text t n at
+refusalOf (Call.Declare r) text m t = declareRefusal r m t
+refusalOf (Call.Boot base frames blockOrder) text m t = λ n. (at : ℕ) × BootAnswers (base .0) frames blockOrder text t n at
 
 -- ---- The promises
 
 -- a call answers n exactly if its list says n; 0, done, among them
 abbrev pub RefusedExactly : Type 0
-RefusedExactly = (call : Call) (m : Machine) (t : Tables) (n : ℕ) → (perform call m t .answer .refusal ≡ n) ↔ refusalOf call m t n
+RefusedExactly =
+    (call : Call) (text : List ℕ) (m : Record) (t : Tables) (n : ℕ) →
+    (perform call text m t .answer .refusal ≡ n) ↔ refusalOf call text m t n
 
 -- every refusal answers its number and two zeros
 abbrev pub RefusalHasZeros : Type 0
 RefusalHasZeros =
-    (call : Call) (m : Machine) (t : Tables) →
-    ((base frames order : ℕ) (text : List ℕ) → call ≢ boot base frames order text) →
-    let a = perform call m t .answer in
+    (call : Call) (text : List ℕ) (m : Record) (t : Tables) →
+    ((base : Frame) (frames blockOrder : ℕ) → call ≢ Call.Boot base frames blockOrder) →
+    let a = perform call text m t .answer in
     a .refusal ≢ 0 → (a .first ≡ 0) × (a .second ≡ 0)
 
 -- for boot a place and a zero
 abbrev pub BootAnswersPlace : Type 0
 BootAnswersPlace =
-    (base frames order : ℕ) (text : List ℕ) (m : Machine) (t : Tables) →
-    let a = perform (boot base frames order text) m t .answer in
-    ((n at : ℕ) → ((a .refusal ≡ n) × (a .first ≡ at)) ↔ BootAnswers base frames order text t n at) × (a .second ≡ 0)
+    (base : Frame) (frames blockOrder : ℕ) (text : List ℕ) (m : Record) (t : Tables) →
+    let a = perform (Call.Boot base frames blockOrder) text m t .answer in
+    ((n at : ℕ) → ((a .refusal ≡ n) × (a .first ≡ at)) ↔ BootAnswers (base .0) frames blockOrder text t n at) × (a .second ≡ 0)

@@ -7,23 +7,24 @@ use Rattle.frames.specs.declared.Frame.{Frame}
 use Rattle.frames.specs.Units.{frame, place, bit}
 use Rattle.frames.specs.Areas.{bitsFor, frameOfBit}
 use Rattle.frames.specs.Tables.{Tables, markAt, wordAt}
-use Rattle.rules.specs.Record.{Machine, areaAt}
+use Rattle.rules.specs.declared.Record.{Record}
+use Rattle.rules.specs.Record.{areaAt}
 use Rattle.rules.specs.Outcomes.{Outcome}
 use Rattle.rules.specs.DeviceCalls.{bitmapOf, placeOfBit, grant, release}
 use Rattle.rules.specs.promises.Changes.{Same, SameLengths, OnlyBits}
 use Rattle.rules.specs.promises.Grants.{Grantable}
 
 -- what was grantable still is: a run of any area
-abbrev pub StillGrantable : Machine → Tables → Tables → Type 0
+abbrev pub StillGrantable : Record → Tables → Tables → Type 0
 StillGrantable m t t′ =
-    (i count order j : ℕ) → i < m .declared → Grantable m t i count order j → Grantable m t′ i count order j
+    (i count alignOrder j : ℕ) → i < m .memory .declared → Grantable m t i count alignOrder j → Grantable m t′ i count alignOrder j
 
 -- what the release of the run of `count` frames at place p of area i, whose first bit is j, leaves of the tables t
-module _ (m : Machine) (i : ℕ) (f : Frame) (count : ℕ) (t : Tables) where
+module _ (m : Record) (i : ℕ) (f : Frame) (count : ℕ) (t : Tables) where
   pub record ReleaseDoes (o : Outcome) (p j : ℕ) : Type 0 where
-    pub at : f .0 ≡ m .base .0 + p
+    pub at : f .0 ≡ m .memory .base .0 + p
     pub on-bit : frameOfBit (areaAt m i) (bit j) .0 ≡ f .0
-    pub in-memory : p + count ≤ m .frames
+    pub in-memory : p + count ≤ m .memory .frames
     pub answer : o .answer ≡ done 0 0
     pub machine : o .machine ≡ m
     pub lengths : SameLengths t (o .left)
@@ -35,17 +36,17 @@ module _ (m : Machine) (i : ℕ) (f : Frame) (count : ℕ) (t : Tables) where
     pub bits : OnlyBits t (o .left) (bitmapOf m i) j (bitsFor (areaAt m i) count) true
     -- a run that begins on an aligned bit, and whose bits and frames lie among those freed, can be granted
     pub again :
-        (count′ order′ j′ : ℕ) →
-        frameOfBit (areaAt m i) (bit j′) .0 % 2 ^ order′ ≡ 0 →
+        (count′ alignOrder′ j′ : ℕ) →
+        frameOfBit (areaAt m i) (bit j′) .0 % 2 ^ alignOrder′ ≡ 0 →
         j ≤ j′ →
         j′ + bitsFor (areaAt m i) count′ ≤ j + bitsFor (areaAt m i) count →
-        placeOfBit m i (bit j′) .0 + count′ ≤ p + count → Grantable m (o .left) i count′ order′ j′
+        placeOfBit m i (bit j′) .0 + count′ ≤ p + count → Grantable m (o .left) i count′ alignOrder′ j′
     -- and so can each that could before
     pub still : StillGrantable m t (o .left)
 
 abbrev pub AcceptedRelease : Type 0
 AcceptedRelease =
-    (m : Machine) (i : ℕ) (f : Frame) (count : ℕ) (t : Tables) →
+    (m : Record) (i : ℕ) (f : Frame) (count : ℕ) (t : Tables) →
     let o = release m i f count t in
     o .answer .refusal ≡ 0 → (p : ℕ) × (j : ℕ) × ReleaseDoes m i f count t o p j
 
@@ -53,15 +54,15 @@ AcceptedRelease =
 
 -- after a grant that left o, and its release, that left u: the release is accepted, the run, which begins on bit j, is grantable again,
 -- and so is every candidate that was before the grant
-pub record FreedRoom (m : Machine) (i count order : ℕ) (t : Tables) (o u : Outcome) (j : ℕ) : Type 0 where
+pub record FreedRoom (m : Record) (i count alignOrder : ℕ) (t : Tables) (o u : Outcome) (j : ℕ) : Type 0 where
   pub accepted : u .answer .refusal ≡ 0
   pub on-bit : frameOfBit (areaAt m i) (bit j) .0 ≡ o .answer .first
-  pub again : Grantable m (u .left) i count order j
+  pub again : Grantable m (u .left) i count alignOrder j
   pub still : StillGrantable m t (u .left)
 
 abbrev pub FreedRoomIsUsed : Type 0
 FreedRoomIsUsed =
-    (m : Machine) (i count order : ℕ) (t : Tables) →
-    let o = grant m i count order t in
+    (m : Record) (i count alignOrder : ℕ) (t : Tables) →
+    let o = grant m i count alignOrder t in
     o .answer .refusal ≡ 0 →
-    (j : ℕ) × FreedRoom m i count order t o (release (o .machine) i (frame (o .answer .first)) count (o .left)) j
+    (j : ℕ) × FreedRoom m i count alignOrder t o (release (o .machine) i (frame (o .answer .first)) count (o .left)) j

@@ -8,22 +8,16 @@ use Rattle.cases.proofs.texts.put_areas.Statement.{statement}
 use Rattle.cases.proofs.texts.put_areas.Tie as tie
 
 abbrev Inv-loop : tie.InvT-loop
-Inv-loop out₀ at declared areas last text₀ i₀ t10 out text i = (text ≤ length out) × (length out ≡ length out₀)
+Inv-loop out₀ at areas declared last text₀ i₀ t9 out text i = (text ≤ length out) × (length out ≡ length out₀)
 
 abbrev μ-loop : tie.MeasureT-loop
-μ-loop out₀ at declared areas last text₀ i₀ t10 out text i = last - i
-
-at-most-eight-requires : tie.Need-at-most-eight-requires Inv-loop μ-loop
-at-most-eight-requires c κs = search needs
+μ-loop out₀ at areas declared last text₀ i₀ t9 out text i = last - i
 
 loop-holds : tie.Need-loop-holds Inv-loop μ-loop
 loop-holds c = search needs
 
-mul-area : tie.Need-mul-area Inv-loop μ-loop
-mul-area c = omega (arith, c .before .before .at-most-eight .ensures)
-
-array-copy-out-area : tie.Need-array-copy-out-area Inv-loop μ-loop
-array-copy-out-area c = omega (arith, c .before .before .at-most-eight .ensures)
+area-at-requires : tie.Need-area-at-requires Inv-loop μ-loop
+area-at-requires c κs = search needs
 
 slice-aggregate-put-three : tie.Need-slice-aggregate-put-three Inv-loop μ-loop
 slice-aggregate-put-three c = search needs
@@ -32,7 +26,7 @@ put-three-requires : tie.Need-put-three-requires Inv-loop μ-loop
 put-three-requires c κs = c .before .before .before .before .loop .inv .0
 
 add-i : tie.Need-add-i Inv-loop μ-loop
-add-i c = omega (arith, c .before .before .before .before .before .before .before .before .at-most-eight .ensures)
+add-i c = omega (arith, c .before .before .before .before .before .before .loop-test .taken, c .before .before .before .before .before .before .before .before .before .before .fits)
 
 loop-less : tie.Need-loop-less Inv-loop μ-loop
 loop-less c = search needs
@@ -56,10 +50,8 @@ put-areas-spec =
     (tie.spec
     Inv-loop
     μ-loop
-    at-most-eight-requires
     loop-holds
-    mul-area
-    array-copy-out-area
+    area-at-requires
     slice-aggregate-put-three
     put-three-requires
     add-i

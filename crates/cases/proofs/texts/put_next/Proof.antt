@@ -1,7 +1,7 @@
 -- `cases::texts::put_next` meets its contract: what is appended ends within the buffer. Assumes nothing.
 use borrow.Author.Needs.{needs}
 use native.Mathlib.Omega.{arith}
-use Rattle.playback.proofs.Within.{appended-within}
+use Rattle.text.proofs.Within.{appended-within}
 use Rattle.cases.proofs.texts.put_next.Statement.{statement}
 use Rattle.cases.proofs.texts.put_next.Tie as tie
 

@@ -13,17 +13,17 @@ Inv-loop out₀ at count list last text₀ i₀ t10 out text i = (text ≤ lengt
 abbrev μ-loop : tie.MeasureT-loop
 μ-loop out₀ at count list last text₀ i₀ t10 out text i = last - i
 
-at-most-eight-requires : tie.Need-at-most-eight-requires Inv-loop μ-loop
-at-most-eight-requires c κs = search needs
+listed-requires : tie.Need-listed-requires Inv-loop μ-loop
+listed-requires c κs = search needs
 
 loop-holds : tie.Need-loop-holds Inv-loop μ-loop
 loop-holds c = search needs
 
 mul-region : tie.Need-mul-region Inv-loop μ-loop
-mul-region c = omega (arith, c .before .before .at-most-eight .ensures)
+mul-region c = omega (arith, c .before .before .listed .ensures)
 
 array-copy-out-region : tie.Need-array-copy-out-region Inv-loop μ-loop
-array-copy-out-region c = omega (arith, c .before .before .at-most-eight .ensures)
+array-copy-out-region c = omega (arith, c .before .before .listed .ensures)
 
 slice-aggregate-put-three : tie.Need-slice-aggregate-put-three Inv-loop μ-loop
 slice-aggregate-put-three c = search needs
@@ -32,7 +32,7 @@ put-three-requires : tie.Need-put-three-requires Inv-loop μ-loop
 put-three-requires c κs = c .before .before .before .before .loop .inv .0
 
 add-i : tie.Need-add-i Inv-loop μ-loop
-add-i c = omega (arith, c .before .before .before .before .before .before .before .before .at-most-eight .ensures)
+add-i c = omega (arith, c .before .before .before .before .before .before .before .before .listed .ensures)
 
 loop-less : tie.Need-loop-less Inv-loop μ-loop
 loop-less c = search needs
@@ -56,7 +56,7 @@ put-regions-spec =
     (tie.spec
     Inv-loop
     μ-loop
-    at-most-eight-requires
+    listed-requires
     loop-holds
     mul-region
     array-copy-out-region

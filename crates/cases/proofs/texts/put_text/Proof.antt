@@ -1,7 +1,7 @@
 -- `cases::texts::put_text` meets its contract: the line ends within the buffer. Assumes nothing.
 use borrow.Author.Needs.{needs}
 use native.Mathlib.Omega.{arith}
-use Rattle.playback.proofs.Within.{appended-within}
+use Rattle.text.proofs.Within.{appended-within}
 use Rattle.cases.proofs.texts.put_text.Statement.{statement}
 use Rattle.cases.proofs.texts.put_text.Tie as tie
 

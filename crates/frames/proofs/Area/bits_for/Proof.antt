@@ -13,17 +13,17 @@ shl-ceiling : tie.Need-shl-ceiling
 shl-ceiling c = search needs
 
 ceiling-requires : tie.Need-ceiling-requires
-ceiling-requires c κs = rw (one-shl (c .before .before .before .args .self .order) (c .before .if1 .taken)) (pow-pos (c .before .before .before .args .self .order))
+ceiling-requires c κs = rw (one-shl (c .before .before .before .args .self .«order_per_bit») (c .before .if1 .taken)) (pow-pos (c .before .before .before .args .self .«order_per_bit»))
 
 returns : tie.Need-returns
 returns c =
     let a = c .before .before .before .before .args .self in
-    c .ceiling .ensures ∙ ap (ceiling (c .before .before .before .before .args .count)) (one-shl (a .order) (c .before .before .if1 .taken))
+    c .ceiling .ensures ∙ ap (ceiling (c .before .before .before .before .args .count)) (one-shl (a .«order_per_bit») (c .before .before .if1 .taken))
 
 returns-2 : tie.Need-returns-2
 returns-2 c =
     let a = c .before .before .before .args .self in
-    sym (rw (c .if2 .taken) (ceiling-zero (2 ^ a .order) (pow-pos (a .order))))
+    sym (rw (c .if2 .taken) (ceiling-zero (2 ^ a .«order_per_bit») (pow-pos (a .«order_per_bit»))))
 
 returns-3 : tie.Need-returns-3
 returns-3 c = sym (ceiling-one _ _ (omega arith) (omega (arith, pow-mono (c .before .if1 .left))))

@@ -1,39 +1,34 @@
--- `frames::areas::first_word` meets its contract: the words of the areas passed, at most 2^58 of each. Assumes nothing.
-use Prim.Native.Nat.{_-_, _*_, _^_, _≤_}
+-- `frames::areas::first_word` meets its contract: the words of the areas passed, up to the largest number. Assumes nothing.
+use Prim.Native.Nat.{_-_, _≤_, min}
 use native.Mathlib.Omega.{arith}
-use mathlib.Core.Path.{_≡_, sym, ap, _∙_}
+use mathlib.Core.Path.{_≡_}
 use borrow.Author.Needs.{needs}
-use Rattle.frames.specs.Areas.{ceiling, firstWord}
+use Rattle.frames.specs.Units.{mostNumber}
+use Rattle.frames.specs.Areas.{firstWord}
 use Rattle.frames.proofs.AreaFacts.{first-word-zero, first-word-next, first-word-clip}
 use Rattle.frames.proofs.areas.first_word.Statement.{statement}
 use Rattle.frames.proofs.areas.first_word.Tie as tie
 
 abbrev Inv-loop : tie.InvT-loop
-Inv-loop i areas end word₀ before₀ word before = (before ≤ end) × (word ≤ before * 2 ^ 58) × (word ≡ firstWord areas before)
+Inv-loop areas i end word₀ before₀ word before = (before ≤ end) × (word ≡ min (firstWord areas before) mostNumber)
 
 abbrev μ-loop : tie.MeasureT-loop
-μ-loop i areas end word₀ before₀ word before = end - before
+μ-loop areas i end word₀ before₀ word before = end - before
 
 in-use-requires : tie.Need-in-use-requires Inv-loop μ-loop
 in-use-requires c κs = search needs
 
 loop-holds : tie.Need-loop-holds Inv-loop μ-loop
-loop-holds c = (omega arith, omega arith, sym (first-word-zero (c .before .args .t1)))
+loop-holds c = (omega arith, omega (arith, first-word-zero (c .before .before .args .areas .now)))
 
-mul-area : tie.Need-mul-area Inv-loop μ-loop
-mul-area c = search needs
+area-at-requires : tie.Need-area-at-requires Inv-loop μ-loop
+area-at-requires c κs = search needs
 
-array-copy-out-area : tie.Need-array-copy-out-area Inv-loop μ-loop
-array-copy-out-area c = search needs
+words-requires : tie.Need-words-requires Inv-loop μ-loop
+words-requires c κs = search needs
 
-bits-requires : tie.Need-bits-requires Inv-loop μ-loop
-bits-requires c κs = search needs
-
-ceiling-requires : tie.Need-ceiling-requires Inv-loop μ-loop
-ceiling-requires c κs = search needs
-
-add-word : tie.Need-add-word Inv-loop μ-loop
-add-word c = search needs
+sum-or-most-requires : tie.Need-sum-or-most-requires Inv-loop μ-loop
+sum-or-most-requires c κs = search needs
 
 add-before : tie.Need-add-before Inv-loop μ-loop
 add-before c = search needs
@@ -43,17 +38,16 @@ loop-less c = search needs
 
 loop-again : tie.Need-loop-again Inv-loop μ-loop
 loop-again c =
-    let areas = c .before .before .before .before .before .before .args .t1 in
-    let at = c .before .before .before .before .loop in (
-      omega arith,
-      omega arith,
-      omega (arith, at .inv .2, first-word-next areas (at .before), c .ceiling .ensures, ap (λ b. ceiling b 64) (c .before .bits .ensures)),
-    )
+    let areas = c .before .before .before .before .before .before .before .args .areas .now in
+    let at = c .before .before .before .before .loop in
+    let words = rw (c .before .before .area-at .ensures) at (c .before .words .ensures) in
+    (omega arith, omega (arith, at .inv .1, first-word-next areas (at .before), c .sum-or-most .ensures, words))
 
 returns : tie.Need-returns Inv-loop μ-loop
 returns c =
+    let x = c .before .before .before .before .args in
     let at = c .before .loop in
-    at .inv .2 ∙ first-word-clip (c .before .before .before .args .t1) (omega arith) (c .before .before .before .args .i) (at .before) (omega arith)
+    omega (arith, at .inv .1, first-word-clip (x .areas .now) (x .i) (at .before) (omega arith))
 
 pub first-word-spec : {M : Type 1} → statement M
 first-word-spec =
@@ -63,11 +57,9 @@ first-word-spec =
     μ-loop
     in-use-requires
     loop-holds
-    mul-area
-    array-copy-out-area
-    bits-requires
-    ceiling-requires
-    add-word
+    area-at-requires
+    words-requires
+    sum-or-most-requires
     add-before
     loop-less
     loop-again

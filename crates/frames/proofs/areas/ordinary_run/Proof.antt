@@ -28,16 +28,17 @@ next-area-requires c κs = search needs
 
 returns : tie.Need-returns Inv-loop μ-loop
 returns c =
+    let at = c .before .before .before .before .before .before .before .args in
     let inv = c .before .before .before .before .before .loop .inv in
     let next = c .next-area .ensures in
     let past = c .before .before .before .past-area .ensures in
     record {
       low = omega (arith, past .low);
-      order = omega (arith, next .low);
+      ordered = omega (arith, next .low);
       more = omega (arith, next .low, past .low);
       high = next .high;
       held = λ k a b. inv .2 k a (omega arith);
-      clear = next .clear (subst (λ (i : ℕ). inAreasAt (c .before .before .before .before .before .before .args .base) (c .before .before .before .before .before .before .args .areas) (c .before .before .before .before .before .before .args .declared) i ≡ false) (sym (c .before .if1 .taken)) (past .clear (c .before .if1 .taken)));
+      clear = next .clear (subst (λ (i : ℕ). inAreasAt (at .base) (at .areas .now) (at .declared) i ≡ false) (sym (c .before .if1 .taken)) (past .clear (c .before .if1 .taken)));
     }
 
 loop-less : tie.Need-loop-less Inv-loop μ-loop
@@ -57,7 +58,7 @@ returns-2 c =
     let inv = c .before .loop .inv in
     record {
       low = omega arith;
-      order = le-refl _;
+      ordered = le-refl _;
       more = omega arith;
       high = le-refl _;
       held = λ k a b. inv .2 k a (omega arith);

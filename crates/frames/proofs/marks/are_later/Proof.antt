@@ -1,4 +1,5 @@
--- `frames::marks::are_later` meets its contract: a range that passes the end has a mark that reads 0, which is free; in any other each place passed is later. Assumes nothing.
+-- `frames::marks::are_later` meets its contract: a range that passes the end has a mark that reads 0, which is free; in
+-- any other each place passed is later. Assumes nothing.
 use Prim.Native.Nat.{_-_}
 use native.Mathlib.Omega.{arith}
 use borrow.Author.Needs.{needs}

@@ -1,4 +1,5 @@
--- `frames::marks::count_movable` meets its contract: the count of the places passed, and a mark past the end reads 0, which is free. Assumes nothing.
+-- `frames::marks::count_movable` meets its contract: the count of the places passed, and a mark past the end reads 0, which is
+-- free. Assumes nothing.
 use Prim.Native.Nat.{_-_, _≤_, _+_}
 use native.Mathlib.Omega.{arith}
 use borrow.Author.Needs.{needs}

@@ -25,7 +25,7 @@ ordinary-run-requires c κs = search needs
 free-in-requires : tie.Need-free-in-requires Inv-loop μ-loop
 free-in-requires c κs =
     let run = c .ordinary-run .ensures in
-    (omega (arith, run .low, run .order), omega (arith, run .high))
+    (omega (arith, run .low, run .ordered), omega (arith, run .high))
 
 returns : tie.Need-returns Inv-loop μ-loop
 returns c =

@@ -22,21 +22,21 @@ abbrev μ-loop : tie.MeasureT-loop
 
 loop-holds : tie.Need-loop-holds Inv-loop μ-loop
 loop-holds c =
-    let at = c .before .args in
-    let p = isFreeOrdinary (at .marks .now) (at .base) (at .areas) (at .declared) in
+    let at = c .before .before .args in
+    let p = isFreeOrdinary (at .marks .now) (at .base) (at .areas .now) (at .declared) in
     (omega arith, ap (λ (d : ℕ). leb (at .least) (howMany p 0 d)) (omega arith))
 
 returns : tie.Need-returns Inv-loop μ-loop
 returns c =
-    let at = c .before .before .before .before .args in
-    let rest = howMany (isFreeOrdinary (at .marks .now) (at .base) (at .areas) (at .declared)) (c .before .before .loop .i) _ in
+    let at = c .before .before .before .before .before .args in
+    let rest = howMany (isFreeOrdinary (at .marks .now) (at .base) (at .areas .now) (at .declared)) (c .before .before .loop .i) _ in
     sym (c .before .before .loop .inv .1 ∙ le-leb _ rest (omega arith))
 
 ordinary-run-requires : tie.Need-ordinary-run-requires Inv-loop μ-loop
 ordinary-run-requires c κs = search needs
 
 less-free-requires : tie.Need-less-free-requires Inv-loop μ-loop
-less-free-requires c κs = (c .ordinary-run .ensures .order, c .ordinary-run .ensures .high)
+less-free-requires c κs = (c .ordinary-run .ensures .ordered, c .ordinary-run .ensures .high)
 
 loop-less : tie.Need-loop-less Inv-loop μ-loop
 loop-less c = omega (arith, c .before .ordinary-run .ensures .more, c .before .ordinary-run .ensures .high)
@@ -48,8 +48,8 @@ loop-again c =
 
 returns-2 : tie.Need-returns-2 Inv-loop μ-loop
 returns-2 c =
-    let at = c .before .before .before .args in
-    let p = isFreeOrdinary (at .marks .now) (at .base) (at .areas) (at .declared) in
+    let at = c .before .before .before .before .args in
+    let p = isFreeOrdinary (at .marks .now) (at .base) (at .areas .now) (at .declared) in
     let i = c .before .loop .i in
     let none : howMany p i (length (at .marks .now) - i) ≡ 0 = many-zero p i (length (at .marks .now) - i) (λ k a b. absurd (omega arith)) in
     eqb-zero (c .before .loop .left) ∙ sym (c .before .loop .inv .1 ∙ ap (leb (c .before .loop .left)) none)

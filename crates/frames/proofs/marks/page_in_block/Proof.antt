@@ -1,5 +1,5 @@
 -- `frames::marks::page_in_block` meets its contract: a block that cannot hold it is passed. Assumes nothing.
-use Prim.Native.Nat.{_+_, _-_}
+use Prim.Native.Nat.{_+_}
 use native.Mathlib.Omega.{arith}
 use mathlib.Core.Path.{sym, _∙_}
 use borrow.Author.Needs.{needs}

@@ -4,7 +4,6 @@ use Prim.Native.Nat.{_-_}
 use native.Mathlib.Omega.{arith}
 use mathlib.Core.Path.{sym}
 use denote.Ref.{now}
-use Rattle.machine.specs.Given.{machineOf}
 use Rattle.frames.specs.Tables.{Tables, tables}
 use Rattle.playback.proofs.Lending.{few-marks, few-words, answered}
 use Rattle.playback.proofs.calls.answer.Statement.{statement}
@@ -21,34 +20,43 @@ wrong-shape-requires : tie.Need-wrong-shape-requires
 wrong-shape-requires c κs = search needs
 
 returns : tie.Need-returns
-returns c = rw (c .wrong-shape .ensures) (sym (few-marks (c .before .before .before .before .before .before .args .item) (machineOf (c .before .before .before .before .before .before .args .machine)) (lent-by (c .before .before .before .before .before .before)) (let e = c .before .before .frames-for .ensures in omega arith)))
+returns c =
+    let start = c .before .before .before .before .before .before in
+    let frames = c .before .before .frames-for .ensures in
+    rw (c .wrong-shape .ensures) (sym (few-marks (start .args .call) (start .args .machine .«record») (lent-by start) (omega arith)))
 
 wrong-shape-requires-2 : tie.Need-wrong-shape-requires-2
 wrong-shape-requires-2 c κs = search needs
 
 returns-2 : tie.Need-returns-2
-returns-2 c = rw (c .wrong-shape2 .ensures) (sym (few-words (c .before .before .before .before .before .before .before .args .item) (machineOf (c .before .before .before .before .before .before .before .args .machine)) (lent-by (c .before .before .before .before .before .before .before)) (let e = c .before .before .before .frames-for .ensures in omega arith)))
+returns-2 c =
+    let start = c .before .before .before .before .before .before .before in
+    let frames = c .before .before .before .frames-for .ensures in
+    rw (c .wrong-shape2 .ensures) (sym (few-words (start .args .call) (start .args .machine .«record») (lent-by start) (omega arith)))
 
-sub-call : tie.Need-sub-call
-sub-call c = search needs
+sub-perform : tie.Need-sub-perform
+sub-perform c = search needs
 
-part-call-start : tie.Need-part-call-start
-part-call-start c = search needs
+part-perform-start : tie.Need-part-perform-start
+part-perform-start c = search needs
 
-part-call-end : tie.Need-part-call-end
-part-call-end c = search needs
+part-perform-end : tie.Need-part-perform-end
+part-perform-end c = search needs
 
-sub-call-2 : tie.Need-sub-call-2
-sub-call-2 c = search needs
+sub-perform-2 : tie.Need-sub-perform-2
+sub-perform-2 c = search needs
 
-part-call-start-2 : tie.Need-part-call-start-2
-part-call-start-2 c = search needs
+part-perform-start-2 : tie.Need-part-perform-start-2
+part-perform-start-2 c = search needs
 
-part-call-end-2 : tie.Need-part-call-end-2
-part-call-end-2 c = search needs
+part-perform-end-2 : tie.Need-part-perform-end-2
+part-perform-end-2 c = search needs
 
-call-requires : tie.Need-call-requires
-call-requires c κs = search needs
+slice-aggregate-perform : tie.Need-slice-aggregate-perform
+slice-aggregate-perform c = search needs
+
+perform-requires : tie.Need-perform-requires
+perform-requires c κs = search needs
 
 same-length : tie.Need-same-length
 same-length c = search needs
@@ -61,13 +69,13 @@ same-length-3 c = search needs
 
 returns-3 : tie.Need-returns-3
 returns-3 c =
-    let o = c .before .before .before .before .before .before .call in
-    let f = c .before .before .before .before .before .before .before .before .before .before .before .before .frames-for in
-    answered (c .before .before .before .before .before .before .before .before .before .before .before .before .before .before .before .before .args .item) (machineOf (c .before .before .before .before .before .before .before .before .before .before .before .before .before .before .before .before .args .machine)) (lent-by (c .before .before .before .before .before .before .before .before .before .before .before .before .before .before .before .before)) (f .result - 0) (o .result) (o .last .0) (o .last .1 .0) (o .last .1 .1 .0)
-    (let e = f .ensures in omega arith)
-    (omega arith)
-    (omega arith)
-    (o .ensures)
+    let start = c .before .before .before .before .before .before .before .before .before .before .before .before .before .before .before .before .before in
+    let frames = c .before .before .before .before .before .before .before .before .before .before .before .before .before .frames-for in
+    let same = frames .ensures in
+    let made = c .before .before .before .before .before .before .perform in
+    answered (start .args .call) (start .args .machine .«record») (lent-by start) (frames .result - 0)
+    (made .result .machine .«record») (made .result .answer) (made .last .1 .0) (made .last .1 .1 .0) (made .last .1 .1 .1 .0)
+    (omega arith) (omega (arith, c .before .before .before .before .before .before .before .before .before .before .before .before .if1 .left)) (omega (arith, c .before .before .before .before .before .before .before .before .before .before .before .if2 .left)) (made .ensures)
 
 pub answer-spec : {M : Type 1} → statement M
 answer-spec =
@@ -78,13 +86,14 @@ answer-spec =
     returns
     wrong-shape-requires-2
     returns-2
-    sub-call
-    part-call-start
-    part-call-end
-    sub-call-2
-    part-call-start-2
-    part-call-end-2
-    call-requires
+    sub-perform
+    part-perform-start
+    part-perform-end
+    sub-perform-2
+    part-perform-start-2
+    part-perform-end-2
+    slice-aggregate-perform
+    perform-requires
     same-length
     same-length-2
     same-length-3

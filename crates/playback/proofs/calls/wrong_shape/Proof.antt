@@ -1,7 +1,5 @@
 -- `playback::calls::wrong_shape` meets its contract. Assumes nothing.
 use borrow.Author.Needs.{needs}
-use mathlib.Core.Path.{ap}
-use Rattle.machine.specs.Given.{returned}
 use Rattle.playback.proofs.calls.wrong_shape.Statement.{statement}
 use Rattle.playback.proofs.calls.wrong_shape.Tie as tie
 
@@ -9,7 +7,7 @@ refused-requires : tie.Need-refused-requires
 refused-requires c κs = search needs
 
 returns : tie.Need-returns
-returns c = ap (returned (c .before .args .machine)) (c .refused .ensures)
+returns c = rw (c .refused .ensures)
 
 pub wrong-shape-spec : {M : Type 1} → statement M
 wrong-shape-spec = tie.close (tie.spec refused-requires returns)

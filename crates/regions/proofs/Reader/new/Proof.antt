@@ -41,7 +41,7 @@ use denote.Triple.Table.{entered, cited}
 use denote.Triple.Walked.{says, Stays, stay-none-slice, walkOf, goes-none-slice, Walks, ends-at, walked, walk-meets}
 use denote.Exit.{yes}
 use denote.Triple.Clauses.{ensured, lasts}
-use Rattle.regions.specs.Outcome.{begun as begunOf}
+use Rattle.regions.specs.steps.Progress.{begun as begunOf}
 use Rattle.regions.specs.declared.Reader.{Reader}
 use Rattle.regions.specs.declared.list.Progress.{Progress}
 use Rattle.regions.proofs.Reader as T

@@ -44,7 +44,7 @@ use denote.Triple.Table.{entered, cited}
 use denote.Triple.Walked.{says, needs, Stays, stay-none, walkOf, goes-none, Walks, ends-at, walked, walk-meets}
 use denote.Exit.{yes}
 use denote.Triple.Clauses.{ensured, lasts}
-use Rattle.regions.specs.Outcome.{Holding, oneMore}
+use Rattle.regions.specs.steps.Progress.{Holding, oneMore}
 use Rattle.regions.specs.declared.Reader.{Reader}
 use Rattle.regions.specs.declared.Regions.{Regions}
 use Rattle.regions.specs.declared.list.Progress.{Progress}

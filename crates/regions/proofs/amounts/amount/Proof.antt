@@ -1,6 +1,7 @@
 -- `regions::amounts::amount` meets its contract: what the number gives is judged as it is held. Assumes nothing.
-use Rattle.regions.proofs.Numbers.{amount-refused, amount-given}
-use Rattle.regions.specs.Steps.{scanned, wrongFor}
+use Rattle.regions.proofs.Judging.{amount-refused, amount-given}
+use Rattle.text.specs.Reading.{scanned}
+use Rattle.regions.specs.steps.Parts.{wrongFor}
 use denote.Ref.{now}
 use mathlib.Core.Path.{sym, ap, _∙_}
 use borrow.Author.Needs.{needs}

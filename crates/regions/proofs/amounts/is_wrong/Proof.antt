@@ -1,6 +1,6 @@
 -- `regions::amounts::is_wrong` meets its contract: a test for each purpose. Assumes nothing.
 use mathlib.Core.Bool.{not}
-use Rattle.regions.specs.Steps.{wrongFor}
+use Rattle.regions.specs.steps.Parts.{wrongFor}
 use Rattle.regions.specs.declared.amounts.Purpose.{Purpose}
 use mathlib.Core.Path.{sym, ap, _∙_}
 use borrow.Author.Needs.{needs}

@@ -1,6 +1,6 @@
 -- `regions::amounts::judged` meets its contract: the two tests of the definition, one after the other. Assumes nothing.
-use Rattle.regions.proofs.Numbers.{judged-much, judged-fit}
-use Rattle.regions.specs.Steps.{wrongFor}
+use Rattle.regions.proofs.Judging.{judged-much, judged-fit}
+use Rattle.regions.specs.steps.Parts.{wrongFor}
 use mathlib.Core.Path.{sym, _∙_}
 use borrow.Author.Needs.{needs}
 use Rattle.regions.proofs.amounts.judged.Statement.{statement}

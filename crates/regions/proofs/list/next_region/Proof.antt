@@ -1,8 +1,8 @@
 -- `regions::list::next_region` meets its contract: a region is read, and what must stand after it. Assumes nothing.
-use Rattle.regions.proofs.Sequence.{then-given, then-refused}
-use Rattle.regions.specs.Steps.{regionRead, separatedFrom, nextRegion}
-use Rattle.regions.specs.Outcome.{held}
+use Rattle.text.proofs.Sequence.{then-given, then-refused}
 use Rattle.regions.specs.Text.{region}
+use Rattle.regions.specs.steps.Parts.{regionRead, separatedFrom, nextRegion}
+use Rattle.regions.specs.steps.Progress.{held}
 use denote.Ref.{now}
 use mathlib.Core.Path.{sym, ap, _∙_}
 use borrow.Author.Needs.{needs}

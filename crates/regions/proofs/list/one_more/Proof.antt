@@ -1,8 +1,8 @@
 -- `regions::list::one_more` meets its contract: the tests of the definition, in its order. Assumes nothing.
 use Rattle.regions.proofs.Listing.{one-end, one-full, one-next}
 use Rattle.regions.specs.declared.Regions.{Regions}
-use Rattle.regions.specs.Steps.{regionRead}
-use Rattle.regions.specs.Outcome.{held, goingOn, finished, afterRegion}
+use Rattle.regions.specs.steps.Parts.{regionRead}
+use Rattle.regions.specs.steps.Progress.{held, goingOn, finished, afterRegion}
 use denote.Ref.{now}
 use mathlib.Core.Path.{sym, ap, _∙_}
 use native.Mathlib.Omega.{arith}

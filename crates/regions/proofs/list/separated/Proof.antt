@@ -1,5 +1,5 @@
 -- `regions::list::separated` meets its contract: the tests of the definition, in its order. Assumes nothing.
-use Rattle.regions.specs.Steps.{separatedFrom}
+use Rattle.regions.specs.steps.Parts.{separatedFrom}
 use lib.ListN.{length}
 use denote.Ref.{now}
 use borrow.Author.Tests.{eq-eqb, ne-eqb}

@@ -1,11 +1,12 @@
 -- `regions::names::is_named` meets its contract: the regions from i on are left to compare. Assumes nothing.
-use Rattle.regions.specs.Steps.{sameName}
+use Rattle.regions.specs.Text.{isNamed}
+use Rattle.regions.specs.Result.{noRegion}
+use Rattle.regions.specs.steps.Parts.{sameName}
+use Rattle.regions.specs.steps.Progress.{held}
 use Rattle.regions.specs.declared.Regions.{Regions}
 use lib.Seq.{getD-take}
 use mathlib.Core.Bool.{true, false}
 use Rattle.regions.proofs.Naming.{named-next, named-none}
-use Rattle.regions.specs.Outcome.{held, noRegion}
-use Rattle.regions.specs.Text.{isNamed}
 use lib.ListN.{length, getD, drop}
 use denote.Ref.{now}
 use mathlib.Core.Path.{_≡_, refl, sym, ap, _∙_}

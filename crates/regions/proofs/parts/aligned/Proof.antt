@@ -1,7 +1,8 @@
 -- `regions::parts::aligned` meets its contract: one part is read, and the rest goes on from there. Assumes nothing.
-use Rattle.regions.proofs.Sequence.{then-given, then-refused}
-use Rattle.regions.specs.Steps.{scanned, allocatedFrom, alignedFrom}
+use Rattle.text.proofs.Sequence.{then-given, then-refused}
+use Rattle.text.specs.Reading.{scanned}
 use Rattle.regions.specs.Text.{optional, alignment}
+use Rattle.regions.specs.steps.Parts.{allocatedFrom, alignedFrom}
 use denote.Ref.{now}
 use mathlib.Core.Path.{sym, ap, _∙_}
 use borrow.Author.Needs.{needs}

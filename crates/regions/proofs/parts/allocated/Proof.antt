@@ -1,8 +1,8 @@
 -- `regions::parts::allocated` meets its contract: what the allocator gives is left out. Assumes nothing.
-use Rattle.regions.proofs.Sequence.{then-given, then-refused}
-use Rattle.regions.specs.Steps.{scanned, allocatedFrom}
+use Rattle.text.proofs.Sequence.{then-given, then-refused}
+use Rattle.text.specs.Reading.{scanned, gives}
 use Rattle.regions.specs.Text.{optional, allocator}
-use Rattle.regions.specs.Reading.{gives}
+use Rattle.regions.specs.steps.Parts.{allocatedFrom}
 use denote.Ref.{now}
 use mathlib.Core.Path.{sym, ap, _∙_}
 use borrow.Author.Needs.{needs}

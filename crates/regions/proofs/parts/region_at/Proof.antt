@@ -1,8 +1,9 @@
--- `regions::parts::region_at` meets its contract: a region is its heading and the parts after it. Assumes nothing.
-use Rattle.regions.proofs.Sequence.{then-given, then-refused}
+-- `regions::parts::region_at` meets its contract: a region is its name and the parts after it. Assumes nothing.
+use Rattle.text.proofs.Sequence.{then-given, then-refused}
 use Rattle.regions.proofs.Naming.{region-steps}
-use Rattle.regions.specs.Steps.{scanned, heading, bareRegion, sizedFrom}
-use Rattle.regions.specs.Outcome.{held}
+use Rattle.text.specs.Reading.{scanned}
+use Rattle.regions.specs.steps.Parts.{newName, bareRegion, sizedFrom}
+use Rattle.regions.specs.steps.Progress.{held}
 use Rattle.regions.specs.declared.Region.{Region}
 use denote.Ref.{now}
 use mathlib.Core.Path.{sym, ap, _∙_}
@@ -10,8 +11,8 @@ use borrow.Author.Needs.{needs}
 use Rattle.regions.proofs.parts.region_at.Statement.{statement}
 use Rattle.regions.proofs.parts.region_at.Tie as tie
 
-heading-requires : tie.Need-heading-requires
-heading-requires c κs = search needs
+new-name-requires : tie.Need-new-name-requires
+new-name-requires c κs = search needs
 
 enum-known-refusal : tie.Need-enum-known-refusal
 enum-known-refusal c = search needs
@@ -32,7 +33,7 @@ returns c =
     let got = c .before .refusal .given in
     sym
     (region-steps (held (a .known)) s (a .at) ∙
-    then-refused (heading (held (a .known)) s (a .at)) (λ n next. sizedFrom (bareRegion (a .at) n) s next) (got .0 .0) (got .0 .1 .0) (sym (c .before .before .before .heading .ensures) ∙ ap scanned (got .1)))
+    then-refused (newName (held (a .known)) s (a .at)) (λ n next. sizedFrom (bareRegion (a .at) n) s next) (got .0 .0) (got .0 .1 .0) (sym (c .before .before .before .new-name .ensures) ∙ ap scanned (got .1)))
 
 returns-2 : tie.Need-returns-2
 returns-2 c =
@@ -42,13 +43,13 @@ returns-2 c =
     c .sized .ensures ∙ ap (λ (r : Region). sizedFrom r s (got .0 .1 .0)) (c .before .bare-region .ensures) ∙
     sym
     (region-steps (held (a .known)) s (a .at) ∙
-    then-given (heading (held (a .known)) s (a .at)) (λ n next. sizedFrom (bareRegion (a .at) n) s next) (got .0 .0) (got .0 .1 .0) (sym (c .before .before .before .before .before .heading .ensures) ∙ ap scanned (got .1)))
+    then-given (newName (held (a .known)) s (a .at)) (λ n next. sizedFrom (bareRegion (a .at) n) s next) (got .0 .0) (got .0 .1 .0) (sym (c .before .before .before .before .before .new-name .ensures) ∙ ap scanned (got .1)))
 
 pub region-at-spec : {M : Type 1} → statement M
 region-at-spec =
     tie.close
     (tie.spec
-    heading-requires
+    new-name-requires
     enum-known-refusal
     enum-known-n
     bare-region-requires

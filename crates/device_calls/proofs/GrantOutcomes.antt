@@ -1,0 +1,201 @@
+-- What a grant does, from what its checks and its search found. Assumes nothing.
+--     run-marked, taken                 the tables after a run is taken
+--     run-known                         what is known of a run that lies in an area
+--     grant-refused, request-passed     the first checks refuse; they pass
+--     none-found, run-fits              no run can be granted; one can, and it lies in the area
+--     nowhere, granted                  the run's pages have nowhere to go; they have
+use Prim.Native.Nat.{ℕ, _+_, _-_, _*_, _≤_, _<_}
+use native.Mathlib.Omega.{arith}
+use native.Mathlib.Nat.{mul-comm}
+use native.Mathlib.Numerals.{add-one}
+use mathlib.Core.Path.{_≡_, refl, sym, ap, ap₂, subst, _∙_}
+use mathlib.Core.Bool.{Bool, true, false, _||_}
+use mathlib.Core.List.{List, []}
+use lib.Dec.{leb, ltb, eqb}
+use lib.ListN.{length, set, take}
+use borrow.Author.Tests.{eqb-true, leb-true, leb-false, ltb-false, eqb-false, le-leb, lt-leb, lt-ltb, le-ltb}
+use Rattle.search.specs.Search.{howMany}
+use Rattle.search.proofs.Bools.{below-or-not, or-left, or-right, not-flips}
+use Rattle.answer.specs.Answers.{done}
+use Rattle.bitmap.specs.Bits.{setBits}
+use Rattle.frames.specs.declared.Bit.{Bit}
+use Rattle.frames.specs.declared.Frame.{Frame}
+use Rattle.frames.specs.declared.Place.{Place}
+use Rattle.frames.specs.Units.{place, mostNumber}
+use Rattle.frames.specs.Marks.{hasKind, movable}
+use Rattle.frames.specs.Areas.{bitCount, bitsFor, frameOfBit}
+use Rattle.frames.specs.Scans.{marked, isFreeOrdinary}
+use Rattle.frames.specs.Tables.{Tables, tables, fill, withBitmap}
+use Rattle.rules.specs.declared.Record.{Record}
+use Rattle.rules.specs.Record.{areaAt, isOrdinary}
+use Rattle.rules.specs.Limits.{mostFrames, mostBlockOrder, mostAlignOrder}
+use Rattle.rules.specs.Shape.{shapeRight}
+use Rattle.rules.specs.Outcomes.{outcome, refuse, First, here, there, Passed}
+use Rattle.rules.specs.PageCalls.{freeOrdinary}
+use Rattle.rules.specs.DeviceCalls.{isUnknown, bitmapOf, placeOfBit, isCandidate, isGrantable, chosen, movers, targets, moveOut, markRun, takeRun, grantChecks, grant}
+use Rattle.rules.proofs.Checks.{checked-first, checked-stop, checked-pass, checked-end}
+use Rattle.rules.proofs.Shapes.{shape-known}
+use Rattle.rules.proofs.AreaRight.{area-known, in-area}
+use Rattle.rules.proofs.FirstWords.{first-word-exact}
+use Rattle.rules.proofs.promises.Grants.{first-known}
+use Rattle.rules.proofs.ledger.GrantedRun.{run-inside}
+use Rattle.device_calls.specs.steps.Refusals.{firstNumber}
+use Rattle.device_calls.specs.steps.DeviceSteps.{SearchFits, RunFits}
+use Rattle.device_calls.proofs.RefusalFacts.{refused-first, passed-by}
+use Rattle.device_calls.proofs.Alignment.{lower-multiple}
+use Rattle.device_calls.proofs.MoveFacts.{out-bitmap}
+
+-- ---- the tables after a run is taken
+pub run-marked : (ms ws : List ℕ) {ms₁ ws₁ ms₂ ws₂ : List ℕ} (p : Place) (count : ℕ) → ms₁ ≡ set ms (p .0) (count * 8 + 4) → ws₁ ≡ set ws (p .0) 0 →
+    ms₂ ≡ fill ms₁ (p .0 + 1) (count - 1) 5 → ws₂ ≡ fill ws₁ (p .0 + 1) (count - 1) 0 → tables ms₂ ws₂ [] ≡ markRun (tables ms ws []) p count
+run-marked ms ws p count a b c d = rw (c, d, a, b, add-one (p .0), mul-comm count 8)
+
+module _ (m : Record) (t : Tables) (i count : ℕ) (j : Bit) where
+  abbrev first : Place
+  first = placeOfBit m i j
+
+  pub taken : {ms₁ ws₁ ms₂ ws₂ bs : List ℕ} {p : Place} {start n : ℕ} → p ≡ first → tables ms₁ ws₁ [] ≡ moveOut m (withBitmap t []) p count → tables ms₂ ws₂ [] ≡ markRun (tables ms₁ ws₁ []) p count →
+      start ≡ bitmapOf m i → n ≡ bitsFor (areaAt m i) count → bs ≡ setBits (t .bitmap) start (j .0) n → tables ms₂ ws₂ bs ≡ takeRun m t i count j
+  unfolding takeRun
+  taken {ms₁} {ws₁} {ms₂} {ws₂} {bs} {p} {start} {n} e out marks st ns bits =
+      let moved : withBitmap (tables ms₁ ws₁ []) (t .bitmap) ≡ moveOut m t first count =
+      ap (λ (x : Tables). withBitmap x (t .bitmap)) (out ∙ ap (λ (y : Place). moveOut m (withBitmap t []) y count) e) ∙ out-bitmap m (t .bitmap) (withBitmap t []) first count in
+      ap (λ (x : Tables). withBitmap x bs) (marks ∙ ap (λ (y : Place). markRun (tables ms₁ ws₁ []) y count) e) ∙
+      ap (λ (x : Tables). withBitmap (markRun x first count) bs) moved ∙
+      ap (λ (x : List ℕ). withBitmap (markRun (moveOut m t first count) first count) x) (bits ∙ ap₂ (λ (x y : ℕ). setBits (t .bitmap) x (j .0) y) st ns)
+
+  targets-found : length (t .marks) ≡ m .memory .frames → howMany (isFreeOrdinary (t .marks) (m .memory .base) (m .areas) (m .memory .declared)) 0 (length (t .marks)) ≡ targets m t
+  unfolding targets freeOrdinary isFreeOrdinary
+  targets-found e = ap (λ (n : ℕ). howMany (isFreeOrdinary (t .marks) (m .memory .base) (m .areas) (m .memory .declared)) 0 n) e
+
+  movers-found : {p : Place} → p ≡ first → howMany (marked (hasKind movable) (t .marks)) (p .0) count ≡ movers t first count
+  unfolding movers
+  movers-found e = ap (λ (q : Place). howMany (marked (hasKind movable) (t .marks)) (q .0) count) e
+
+  -- what is known of a run that lies in a declared area
+  pub record RunKnown : Type 0 where
+    pub order : areaAt m i .«order_per_bit» ≤ mostBlockOrder
+    pub words-high : bitmapOf m i ≤ mostNumber
+    pub frame-high : frameOfBit (areaAt m i) j .0 ≤ mostNumber
+    pub count-high : count ≤ mostFrames
+    pub end-high : first .0 + count ≤ m .memory .frames
+    pub marks-length : length (t .marks) ≡ m .memory .frames
+    pub words-length : length (t .words) ≡ m .memory .frames
+    pub held : (k : ℕ) → first .0 ≤ k → k < first .0 + count → isOrdinary m (place k) ≡ false
+
+  pub run-known : RunFits m t i count j → RunKnown
+  run-known f =
+      let k = shape-known m t (f .shape) in
+      let r = area-known m t k i (f .known) in
+      let up : frameOfBit (areaAt m i) j .0 + count ≤ m .memory .base .0 + m .memory .frames = omega (arith, f .in-area, r .high) in
+      record {
+        order = omega (arith, r .order, k .memory .order-high);
+        words-high = omega (arith, first-word-exact m t (f .shape) i (let h : i ≤ m .memory .declared = omega (arith, f .known) in h));
+        frame-high = omega (arith, k .memory .end-high);
+        count-high = omega (arith, r .low, k .memory .frames-high);
+        end-high = omega (arith, r .low);
+        marks-length = k .marks-length;
+        words-length = k .words-length;
+        held = λ q u v. in-area m i q (f .known) (omega (arith, r .low)) (omega (arith, r .low, f .in-area));
+      }
+
+module _ (m : Record) (i count align : ℕ) (t : Tables) where
+  -- ---- the checks before a run is looked for
+  widened : {n : ℕ} → First (take 2 (grantChecks m i count align t)) n → First (grantChecks m i count align t) n
+  widened (here e) = here e
+  widened (there e (here f)) = there e (here f)
+
+  pub grant-refused : {n : ℕ} → n ≡ firstNumber (take 2 (grantChecks m i count align t)) → (n ≡ 0 → ⊥) → grant m i count align t ≡ refuse m t n
+  unfolding grant
+  grant-refused e z = checked-first m t _ (widened (refused-first e z))
+
+  pub request-passed : {n : ℕ} → n ≡ firstNumber (take 2 (grantChecks m i count align t)) → n ≡ 0 → Passed (take 2 (grantChecks m i count align t))
+  request-passed e z = passed-by (take 2 (grantChecks m i count align t)) refl e z
+
+  -- they pass
+  module _ (passed : Passed (take 2 (grantChecks m i count align t))) where
+    shaped : shapeRight m t ≡ true
+    shaped = not-flips (shapeRight m t) (passed .0)
+
+    abbrev unknown : Bool
+    unknown = isUnknown (m .memory) i
+
+    abbrev none : Bool
+    none = eqb count 0
+
+    abbrev tooAligned : Bool
+    tooAligned = ltb mostAlignOrder align
+
+    known : i < m .memory .declared
+    known = leb-false (m .memory .declared) i (or-left unknown none (or-left (unknown || none) tooAligned (passed .1 .0)))
+
+    positive : 0 < count
+    positive = below-or-not 0 count (λ h. h) (λ h. absurd (eqb-false count 0 (or-right unknown none (or-left (unknown || none) tooAligned (passed .1 .0))) (omega arith)))
+
+    pub search-fits : SearchFits m i count align
+    search-fits =
+        let k = shape-known m t shaped in
+        let r = area-known m t k i known in
+        record {
+          positive = positive;
+          align-high = ltb-false mostAlignOrder align (or-right (unknown || none) tooAligned (passed .1 .0));
+          bit-high = omega (arith, r .order, k .memory .order-high);
+          begins = lower-multiple (areaAt m i .base .0) (areaAt m i .«order_per_bit») (m .memory .«block_order») (r .order) (eqb-true _ 0 (r .first));
+          end-high = omega (arith, r .high, k .memory .end-high);
+          count-high = omega (arith, r .high, r .low, k .memory .frames-high);
+          words-high = omega (arith, first-word-exact m t shaped i (let h : i ≤ m .memory .declared = omega (arith, known) in h));
+        }
+
+    -- ---- the search, which looks at no words
+    module _ {r : Bit} (e : r ≡ chosen m (tables (t .marks) [] (t .bitmap)) i count align) where
+      chosen-is : chosen m t i count align ≡ r
+      unfolding chosen isGrantable isCandidate
+      chosen-is = sym e
+
+      abbrev all : ℕ
+      all = bitCount (areaAt m i)
+
+      none-left : leb all (chosen m t i count align .0) ≡ leb all (r .0)
+      none-left = ap (λ (x : Bit). leb all (x .0)) chosen-is
+
+      pub none-found : all ≤ r .0 → grant m i count align t ≡ refuse m t 7
+      unfolding grant
+      none-found h = checked-pass m t _ _ _ (passed .0) ∙ checked-pass m t _ _ _ (passed .1 .0) ∙ checked-stop m t _ _ _ (none-left ∙ le-leb all (r .0) h)
+
+      module _ (found : r .0 < all) where
+        has-room : r .0 + bitsFor (areaAt m i) count ≤ all
+        has-room =
+            subst (λ (x : Bit). x .0 + bitsFor (areaAt m i) count ≤ all) chosen-is
+            (first-known m t i count align (subst (λ (x : Bit). x .0 < all) (sym chosen-is) found) .grantable .candidate .inside)
+
+        -- the run lies in the area
+        pub run-fits : RunFits m t i count r
+        run-fits = record { shape = shaped; known = known; positive = positive; in-area = run-inside (areaAt m i) (r .0) count has-room }
+
+        -- ---- n movable frames, and whether there are as many targets
+        module _ {p : Place} (at : p ≡ placeOfBit m i r) {n : ℕ} (counted : n ≡ howMany (marked (hasKind movable) (t .marks)) (p .0) count) {h : Bool}
+            (enough : h ≡ leb n (howMany (isFreeOrdinary (t .marks) (m .memory .base) (m .areas) (m .memory .declared)) 0 (length (t .marks)))) where
+          is-movers : n ≡ movers t (placeOfBit m i r) count
+          is-movers = counted ∙ movers-found m t i count r at
+
+          is-enough : h ≡ leb n (targets m t)
+          is-enough = enough ∙ ap (leb n) (targets-found m t i count r (shape-known m t shaped .marks-length))
+
+          -- the last check
+          too-few : ltb (targets m t) (movers t (placeOfBit m i (chosen m t i count align)) count) ≡ ltb (targets m t) n
+          too-few = ap (λ (x : Bit). ltb (targets m t) (movers t (placeOfBit m i x) count)) chosen-is ∙ ap (ltb (targets m t)) (sym is-movers)
+
+          pub nowhere : h ≡ false → grant m i count align t ≡ refuse m t 8
+          unfolding grant
+          nowhere f =
+              checked-pass m t _ _ _ (passed .0) ∙ checked-pass m t _ _ _ (passed .1 .0) ∙ checked-pass m t _ _ _ (none-left ∙ lt-leb all (r .0) found) ∙
+              checked-stop m t _ _ _ (too-few ∙ lt-ltb (targets m t) n (leb-false n (targets m t) (sym is-enough ∙ f)))
+
+          pub granted : {f : Frame} {u : Tables} → h ≡ true → f ≡ frameOfBit (areaAt m i) r → u ≡ takeRun m t i count r → grant m i count align t ≡ outcome m (done (f .0) n) u
+          unfolding grant
+          granted {f} {u} y fe ue =
+              checked-pass m t _ _ _ (passed .0) ∙ checked-pass m t _ _ _ (passed .1 .0) ∙ checked-pass m t _ _ _ (none-left ∙ lt-leb all (r .0) found) ∙
+              checked-pass m t _ _ _ (too-few ∙ le-ltb (targets m t) n (leb-true n (targets m t) (sym is-enough ∙ y))) ∙ checked-end m t _ ∙
+              ap (λ (x : Bit). outcome m (done (frameOfBit (areaAt m i) x .0) (movers t (placeOfBit m i x) count)) (takeRun m t i count x)) chosen-is ∙
+              ap (λ (x : Frame). outcome m (done (x .0) (movers t (placeOfBit m i r) count)) (takeRun m t i count r)) (sym fe) ∙
+              ap₂ (λ (k : ℕ) (x : Tables). outcome m (done (f .0) k) x) (sym is-movers) (sym ue)

@@ -1,0 +1,198 @@
+// The device calls: grant, release, device store and device read.
+//
+// Each takes any record, as its memory and its areas' numbers, any other numbers and any tables, and checks the shape first. A refused
+// call has changed nothing.
+ghost use mathlib.Core.Path.{_≡_};
+ghost use lib.ListN.{take};
+ghost use Rattle.frames.specs.Lent.{entering, leaving, lentNow};
+ghost use Rattle.rules.specs.Outcomes.{Passed};
+ghost use Rattle.rules.specs.DeviceCalls.{deviceStore, deviceRead, freeRun, releaseChecks, release, takeRun, grantChecks, grant};
+ghost use Rattle.rules.specs.Does.{recordWith, given, Answers};
+ghost use Rattle.device_calls.specs.steps.DeviceSteps.{RunFits};
+
+mod checks;
+mod moves;
+mod runs;
+mod units;
+
+use answer::Answer;
+use answer::refusal;
+use bitmap::clear_run;
+use bitmap::set_run;
+use checks::device_refusal;
+use checks::release_refusal;
+use checks::request_refusal;
+use frames::Bit;
+use frames::Frame;
+use frames::area_at;
+use frames::count_movable;
+use frames::fill_marks;
+use frames::fill_words;
+use frames::has_free_ordinary;
+use frames::place_of;
+use moves::mark_run;
+use moves::move_out;
+use rules::Memory;
+use runs::find_run;
+use units::bit_of_frame;
+use units::bitmap_start;
+use units::frame_of_bit;
+
+// The word becomes that of a granted frame.
+pub fn device_store(
+    memory: Memory,
+    areas: &[u64],
+    marks: &[u32],
+    words: &mut [u64],
+    bitmap: &[u64],
+    frame: Frame,
+    word: u64,
+) -> Answer
+    ensures { λ r. ⌜ Answers (λ m. deviceStore m frame word) memory areas r marks words bitmap ⌝ }
+{
+    let number = device_refusal(memory, areas, marks, words, bitmap, frame);
+    if number != refusal::NONE {
+        return Answer::refused(number);
+    }
+    let page = place_of(memory.base, frame);
+    let at = page.0;
+    words[at] = word;
+    Answer::done(0, 0)
+}
+
+// The word of a granted frame.
+pub fn device_read(
+    memory: Memory,
+    areas: &[u64],
+    marks: &[u32],
+    words: &[u64],
+    bitmap: &[u64],
+    frame: Frame,
+) -> Answer
+    ensures { λ r. ⌜ Answers (λ m. deviceRead m frame) memory areas r marks words bitmap ⌝ }
+{
+    let number = device_refusal(memory, areas, marks, words, bitmap, frame);
+    if number != refusal::NONE {
+        return Answer::refused(number);
+    }
+    let page = place_of(memory.base, frame);
+    let at = page.0;
+    Answer::done(words[at], 0)
+}
+
+// The run's marks and words become 0, and its bits clear.
+fn free_run(
+    memory: Memory,
+    areas: &[u64],
+    marks: &mut [u32],
+    words: &mut [u64],
+    bitmap: &mut [u64],
+    area: u64,
+    frame: Frame,
+    count: u64,
+)
+    requires { ⌜ Passed (take 2 (releaseChecks (recordWith memory (now areas)) area frame count (lentNow marks words bitmap))) ⌝ }
+    ensures { λ _. ⌜ leaving marks words bitmap ≡ freeRun (given memory areas) (entering marks words bitmap) area frame count ⌝ }
+{
+    let a = area_at(areas, area as usize);
+    let start = bitmap_start(areas, area);
+    let page = place_of(memory.base, frame);
+    let first = bit_of_frame(a, frame);
+    let bits = a.bits_for(count) as usize;
+    fill_marks(marks, page, count, 0);
+    fill_words(words, page, count, 0);
+    clear_run(bitmap, start, first.0, bits);
+}
+
+// A grant ends: its frames are free, and its bits clear.
+pub fn release(
+    memory: Memory,
+    areas: &[u64],
+    marks: &mut [u32],
+    words: &mut [u64],
+    bitmap: &mut [u64],
+    area: u64,
+    frame: Frame,
+    count: u64,
+) -> Answer
+    ensures { λ r. ⌜ Answers (λ m. release m area frame count) memory areas r marks words bitmap ⌝ }
+{
+    let number = release_refusal(memory, areas, marks, words, bitmap, area, frame, count);
+    if number != refusal::NONE {
+        return Answer::refused(number);
+    }
+    free_run(memory, areas, marks, words, bitmap, area, frame, count);
+    Answer::done(0, 0)
+}
+
+// The run at a bit of an area becomes a grant: its pages go out, its frames are marked, and its bits set.
+fn take_run(
+    memory: Memory,
+    areas: &[u64],
+    marks: &mut [u32],
+    words: &mut [u64],
+    bitmap: &mut [u64],
+    area: u64,
+    count: u64,
+    run: Bit,
+)
+    requires { ⌜ RunFits (recordWith memory (now areas)) (lentNow marks words bitmap) area count run ⌝ }
+    ensures { λ _. ⌜ leaving marks words bitmap ≡ takeRun (given memory areas) (entering marks words bitmap) area count run ⌝ }
+{
+    let a = area_at(areas, area as usize);
+    let start = bitmap_start(areas, area);
+    let page = place_of(memory.base, frame_of_bit(a, run));
+    let bits = a.bits_for(count) as usize;
+    move_out(memory, areas, marks, words, page, count);
+    mark_run(marks, words, page, count);
+    set_run(bitmap, start, run.0, bits);
+}
+
+// A grant whose arguments are right: the lowest run that can be granted, where there is one and its pages have somewhere to go.
+fn grant_lowest(
+    memory: Memory,
+    areas: &[u64],
+    marks: &mut [u32],
+    words: &mut [u64],
+    bitmap: &mut [u64],
+    area: u64,
+    count: u64,
+    align: u64,
+) -> Answer
+    requires { ⌜ Passed (take 2 (grantChecks (recordWith memory (now areas)) area count align (lentNow marks words bitmap))) ⌝ }
+    ensures { λ r. ⌜ Answers (λ m. grant m area count align) memory areas r marks words bitmap ⌝ }
+{
+    let a = area_at(areas, area as usize);
+    let run = find_run(memory, areas, marks, bitmap, area, count, align);
+    if a.bits() <= run.0 as u64 {
+        return Answer::refused(refusal::NO_RUN);
+    }
+    let first = frame_of_bit(a, run);
+    let page = place_of(memory.base, first);
+    let moved = count_movable(marks, page, count);
+    if !has_free_ordinary(marks, memory.base, areas, memory.declared, moved) {
+        return Answer::refused(refusal::NO_TARGET);
+    }
+    take_run(memory, areas, marks, words, bitmap, area, count, run);
+    Answer::done(first.0, moved)
+}
+
+// The lowest run that can be granted is a device's, and its movable pages stand elsewhere.
+pub fn grant(
+    memory: Memory,
+    areas: &[u64],
+    marks: &mut [u32],
+    words: &mut [u64],
+    bitmap: &mut [u64],
+    area: u64,
+    count: u64,
+    align: u64,
+) -> Answer
+    ensures { λ r. ⌜ Answers (λ m. grant m area count align) memory areas r marks words bitmap ⌝ }
+{
+    let number = request_refusal(memory, areas, marks, words, bitmap, area, count, align);
+    if number != refusal::NONE {
+        return Answer::refused(number);
+    }
+    grant_lowest(memory, areas, marks, words, bitmap, area, count, align)
+}

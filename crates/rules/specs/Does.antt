@@ -1,0 +1,30 @@
+-- How the contracts of the calls' code name what a call does. A function is lent a record's areas beside its memory, and the tables as slices:
+-- these terms and those of frames/specs/Lent are where the record and all tables stand together.
+use Prim.Native.Nat.{ℕ}
+use mathlib.Core.List.{List}
+use mathlib.Core.Path.{_≡_}
+use denote.Ref.{now}
+use Rattle.answer.specs.declared.Answer.{Answer}
+use Rattle.frames.specs.Tables.{Tables}
+use Rattle.frames.specs.Lent.{Slice, entering, leaving}
+use Rattle.rules.specs.declared.Memory.{Memory}
+use Rattle.rules.specs.declared.Record.{Record}
+use Rattle.rules.specs.Outcomes.{Outcome, outcome}
+
+-- the record of a memory and the numbers of its areas
+abbrev pub recordWith : Memory → List ℕ → Record
+recordWith memory areas = record { memory = memory; areas = areas }
+
+-- the record that a function is given as its memory and the areas lent
+abbrev pub given : Memory → Slice → Record
+given memory areas = recordWith memory (now (areas .entry))
+
+-- a function that hands back an answer alone does what a call does: the record stays
+abbrev pub Answers : (Record → Tables → Outcome) → Memory → Slice → Answer → Slice → Slice → Slice → Type 0
+Answers call memory areas r marks words bitmap =
+    outcome (given memory areas) r (leaving marks words bitmap) ≡ call (given memory areas) (entering marks words bitmap)
+
+-- a function that hands back a record and an answer does what a call does
+abbrev pub Returns : (Record → Tables → Outcome) → Record → Record → Answer → Slice → Slice → Slice → Type 0
+Returns call before after r marks words bitmap =
+    outcome after r (leaving marks words bitmap) ≡ call before (entering marks words bitmap)

@@ -1,0 +1,91 @@
+-- `setup::boot` meets its contract: the numbers and lengths, then the plan, then all three tables are filled with 0. Assumes nothing.
+use Rattle.setup.proofs.Starts.{boot-wrong, boot-memory, boot-refused, boot-done}
+use Rattle.shape.proofs.Returns.{returns-it}
+use Rattle.frames.specs.Tables.{tables}
+use native.Mathlib.Omega.{arith}
+use borrow.Author.Needs.{needs}
+use mathlib.Core.Path.{refl}
+use Rattle.setup.proofs.boot.Statement.{statement}
+use Rattle.setup.proofs.boot.Tie as tie
+
+is-bootable-requires : tie.Need-is-bootable-requires
+is-bootable-requires c κs = tt
+
+refused-at-requires : tie.Need-refused-at-requires
+refused-at-requires c κs = tt
+
+returns : tie.Need-returns
+returns c =
+    let x = c .before .before .before .before .before .before .before .args in
+    returns-it (c .refused-at .ensures)
+    (boot-wrong (x .«record») (x .base .0) (x .frames) (x .block-order) (x .text .now) (tables (x .marks .now) (x .words .now) (x .bitmap .now)) (c .before .before .is-bootable .ensures) (c .before .if1 .taken))
+
+sub-plan-text : tie.Need-sub-plan-text
+sub-plan-text c = search needs
+
+part-plan-text-start : tie.Need-part-plan-text-start
+part-plan-text-start c = search needs
+
+part-plan-text-end : tie.Need-part-plan-text-end
+part-plan-text-end c = search needs
+
+plan-text-requires : tie.Need-plan-text-requires
+plan-text-requires c κs =
+    let x = c .before .before .before .before .before .before .before .before .before .args in
+    (refl, boot-memory (x .«record») (x .base .0) (x .frames) (x .block-order) (x .text .now) (tables (x .marks .now) (x .words .now) (x .bitmap .now)) (c .before .before .before .before .is-bootable .ensures) (c .before .before .before .if1 .left))
+
+same-length : tie.Need-same-length
+same-length c = refl
+
+same-length-2 : tie.Need-same-length-2
+same-length-2 c = refl
+
+returns-2 : tie.Need-returns-2
+returns-2 c =
+    let x = c .before .before .before .before .before .before .before .before .before .before .before .before .args in
+    boot-refused (x .«record») (x .base .0) (x .frames) (x .block-order) (x .text .now) (tables (x .marks .now) (x .words .now) (x .bitmap .now)) (c .before .before .before .before .before .before .before .is-bootable .ensures) (c .before .before .before .before .before .before .if1 .left) (c .before .before .plan-text .ensures) (omega (arith, c .if2 .taken))
+
+fill-marks-requires : tie.Need-fill-marks-requires
+fill-marks-requires c κs = tt
+
+fill-words-requires : tie.Need-fill-words-requires
+fill-words-requires c κs = tt
+
+fill-numbers-requires : tie.Need-fill-numbers-requires
+fill-numbers-requires c κs = tt
+
+same-length-3 : tie.Need-same-length-3
+same-length-3 c = search needs
+
+same-length-4 : tie.Need-same-length-4
+same-length-4 c = search needs
+
+same-length-5 : tie.Need-same-length-5
+same-length-5 c = search needs
+
+returns-3 : tie.Need-returns-3
+returns-3 c =
+    let x = c .before .before .before .before .before .before .before .before .before .before .before .before .before .before .before .before .before .before .before .before .before .before .before .before .args in
+    boot-done (x .«record») (x .base .0) (x .frames) (x .block-order) (x .text .now) (tables (x .marks .now) (x .words .now) (x .bitmap .now)) (c .before .before .before .before .before .before .before .before .before .before .before .before .before .before .before .before .before .before .before .is-bootable .ensures) (c .before .before .before .before .before .before .before .before .before .before .before .before .before .before .before .before .before .before .if1 .left) (c .before .before .before .before .before .before .before .before .before .before .before .before .before .before .plan-text .ensures) (c .before .before .before .before .before .before .before .before .before .before .before .before .if2 .left) (c .before .before .before .before .before .before .before .before .before .before .fill-marks .ensures) (c .before .before .before .before .before .before .fill-words .ensures) (c .before .before .fill-numbers .ensures)
+
+pub boot-spec : {M : Type 1} → statement M
+boot-spec =
+    tie.close
+    (tie.spec
+    is-bootable-requires
+    refused-at-requires
+    returns
+    sub-plan-text
+    part-plan-text-start
+    part-plan-text-end
+    plan-text-requires
+    same-length
+    same-length-2
+    returns-2
+    fill-marks-requires
+    fill-words-requires
+    fill-numbers-requires
+    same-length-3
+    same-length-4
+    same-length-5
+    returns-3)

@@ -1,0 +1,22 @@
+-- `setup::start::is_bootable` meets its contract: each test is one of the definition's. Assumes nothing.
+use Rattle.search.proofs.Bools.{and-false-right}
+use mathlib.Core.Path.{refl, sym, _∙_}
+use native.Mathlib.Omega.{arith}
+use borrow.Author.Tests.{eq-eqb, ne-eqb, not-true, not-false}
+use Rattle.setup.proofs.start.is_bootable.Statement.{statement}
+use Rattle.setup.proofs.start.is_bootable.Tie as tie
+
+memory-right-requires : tie.Need-memory-right-requires
+memory-right-requires c κs = tt
+
+returns : tie.Need-returns
+returns c = simp (sym (c .before .memory-right .ensures) ∙ not-true _ (c .if1 .taken))
+
+returns-2 : tie.Need-returns-2
+returns-2 c = simp (ne-eqb _ _ (c .if2 .taken), and-false-right)
+
+returns-3 : tie.Need-returns-3
+returns-3 c = let x = c .before .before .before .args in rw (sym (c .before .before .memory-right .ensures) ∙ not-false _ (c .before .if1 .left), eq-eqb (x .marks) (x .frames) (omega arith)) refl
+
+pub is-bootable-spec : {M : Type 1} → statement M
+is-bootable-spec = tie.close (tie.spec memory-right-requires returns returns-2 returns-3)

@@ -1,0 +1,250 @@
+// The exported functions, one for each call: each makes its call of its numbers and hands it to `exchange::call`. Frames are physical frame
+// numbers.
+ghost use mathlib.Core.Bool.{not};
+ghost use mathlib.Core.List.{[]};
+ghost use lib.Dec.{eqb};
+ghost use Rattle.frames.specs.Units.{frame as frameOf};
+ghost use Rattle.rules.specs.declared.Call.the-variants as Call;
+ghost use Rattle.szk.specs.Exported.{Exports};
+use crate::exchange;
+use frames::Frame;
+use rules::Call;
+use rules::Request;
+
+// A movable page is put.
+#[no_mangle]
+pub extern "C" fn szk_put_movable(
+    numbers: &mut [u64],
+    marks: &mut [u32],
+    words: &mut [u64],
+    bitmap: &mut [u64],
+    answer: &mut [u64],
+    name: u64,
+)
+    ensures { λ _. ⌜ Exports (Call.PutMovable name) [] numbers marks words bitmap answer ⌝ }
+{
+    let call = Call::PutMovable { name };
+    exchange::call(numbers, marks, words, bitmap, answer, call, b"");
+}
+
+// A fixed page is put, which no area takes.
+#[no_mangle]
+pub extern "C" fn szk_put_fixed(
+    numbers: &mut [u64],
+    marks: &mut [u32],
+    words: &mut [u64],
+    bitmap: &mut [u64],
+    answer: &mut [u64],
+    name: u64,
+)
+    ensures { λ _. ⌜ Exports (Call.PutFixed name) [] numbers marks words bitmap answer ⌝ }
+{
+    let call = Call::PutFixed { name };
+    exchange::call(numbers, marks, words, bitmap, answer, call, b"");
+}
+
+// A page is gone from its frame, unless it is pinned.
+#[no_mangle]
+pub extern "C" fn szk_drop(
+    numbers: &mut [u64],
+    marks: &mut [u32],
+    words: &mut [u64],
+    bitmap: &mut [u64],
+    answer: &mut [u64],
+    name: u64,
+)
+    ensures { λ _. ⌜ Exports (Call.Drop name) [] numbers marks words bitmap answer ⌝ }
+{
+    let call = Call::Drop { name };
+    exchange::call(numbers, marks, words, bitmap, answer, call, b"");
+}
+
+// A movable page is pinned.
+#[no_mangle]
+pub extern "C" fn szk_pin(
+    numbers: &mut [u64],
+    marks: &mut [u32],
+    words: &mut [u64],
+    bitmap: &mut [u64],
+    answer: &mut [u64],
+    name: u64,
+)
+    ensures { λ _. ⌜ Exports (Call.Pin name) [] numbers marks words bitmap answer ⌝ }
+{
+    let call = Call::Pin { name };
+    exchange::call(numbers, marks, words, bitmap, answer, call, b"");
+}
+
+// A pinned page is movable again.
+#[no_mangle]
+pub extern "C" fn szk_unpin(
+    numbers: &mut [u64],
+    marks: &mut [u32],
+    words: &mut [u64],
+    bitmap: &mut [u64],
+    answer: &mut [u64],
+    name: u64,
+)
+    ensures { λ _. ⌜ Exports (Call.Unpin name) [] numbers marks words bitmap answer ⌝ }
+{
+    let call = Call::Unpin { name };
+    exchange::call(numbers, marks, words, bitmap, answer, call, b"");
+}
+
+// The word becomes the page's, unless it is pinned.
+#[no_mangle]
+pub extern "C" fn szk_store(
+    numbers: &mut [u64],
+    marks: &mut [u32],
+    words: &mut [u64],
+    bitmap: &mut [u64],
+    answer: &mut [u64],
+    name: u64,
+    word: u64,
+)
+    ensures { λ _. ⌜ Exports (Call.Store name word) [] numbers marks words bitmap answer ⌝ }
+{
+    let call = Call::Store { name, word };
+    exchange::call(numbers, marks, words, bitmap, answer, call, b"");
+}
+
+// Answers the page's frame and its word.
+#[no_mangle]
+pub extern "C" fn szk_read(
+    numbers: &mut [u64],
+    marks: &mut [u32],
+    words: &mut [u64],
+    bitmap: &mut [u64],
+    answer: &mut [u64],
+    name: u64,
+)
+    ensures { λ _. ⌜ Exports (Call.Read name) [] numbers marks words bitmap answer ⌝ }
+{
+    let call = Call::Read { name };
+    exchange::call(numbers, marks, words, bitmap, answer, call, b"");
+}
+
+// A run of frames of an area is granted. Answers its first frame, and how many pages moved out of it.
+#[no_mangle]
+pub extern "C" fn szk_grant(
+    numbers: &mut [u64],
+    marks: &mut [u32],
+    words: &mut [u64],
+    bitmap: &mut [u64],
+    answer: &mut [u64],
+    area: u64,
+    count: u64,
+    align: u64,
+)
+    ensures { λ _. ⌜ Exports (Call.Grant area count align) [] numbers marks words bitmap answer ⌝ }
+{
+    let call = Call::Grant { area, count, align };
+    exchange::call(numbers, marks, words, bitmap, answer, call, b"");
+}
+
+// A grant ends, and its frames are free.
+#[no_mangle]
+pub extern "C" fn szk_release(
+    numbers: &mut [u64],
+    marks: &mut [u32],
+    words: &mut [u64],
+    bitmap: &mut [u64],
+    answer: &mut [u64],
+    area: u64,
+    frame: u64,
+    count: u64,
+)
+    ensures { λ _. ⌜ Exports (Call.Release area (frameOf frame) count) [] numbers marks words bitmap answer ⌝ }
+{
+    let frame = Frame(frame);
+    let call = Call::Release { area, frame, count };
+    exchange::call(numbers, marks, words, bitmap, answer, call, b"");
+}
+
+// A device stores a word in a granted frame.
+#[no_mangle]
+pub extern "C" fn szk_device_store(
+    numbers: &mut [u64],
+    marks: &mut [u32],
+    words: &mut [u64],
+    bitmap: &mut [u64],
+    answer: &mut [u64],
+    frame: u64,
+    word: u64,
+)
+    ensures { λ _. ⌜ Exports (Call.DeviceStore (frameOf frame) word) [] numbers marks words bitmap answer ⌝ }
+{
+    let frame = Frame(frame);
+    let call = Call::DeviceStore { frame, word };
+    exchange::call(numbers, marks, words, bitmap, answer, call, b"");
+}
+
+// A device reads a granted frame. Answers its word.
+#[no_mangle]
+pub extern "C" fn szk_device_read(
+    numbers: &mut [u64],
+    marks: &mut [u32],
+    words: &mut [u64],
+    bitmap: &mut [u64],
+    answer: &mut [u64],
+    frame: u64,
+)
+    ensures { λ _. ⌜ Exports (Call.DeviceRead (frameOf frame)) [] numbers marks words bitmap answer ⌝ }
+{
+    let frame = Frame(frame);
+    let call = Call::DeviceRead { frame };
+    exchange::call(numbers, marks, words, bitmap, answer, call, b"");
+}
+
+// An area is declared, by amounts in bytes. A `fixed` of 0 is no, any other number is yes. Answers its first frame and its count.
+#[no_mangle]
+pub extern "C" fn szk_declare(
+    numbers: &mut [u64],
+    marks: &mut [u32],
+    words: &mut [u64],
+    bitmap: &mut [u64],
+    answer: &mut [u64],
+    base: u64,
+    size: u64,
+    limit: u64,
+    alignment: u64,
+    order_per_bit: u64,
+    fixed: u64,
+)
+    ensures { λ _. ⌜ Exports (Call.Declare (record { base = base; size = size; limit = limit; alignment = alignment; «order_per_bit» = «order_per_bit»; fixed = not (eqb fixed 0) })) [] numbers marks words bitmap answer ⌝ }
+{
+    let request = Request {
+        base,
+        size,
+        limit,
+        alignment,
+        order_per_bit,
+        fixed: fixed != 0,
+    };
+    let call = Call::Declare { request };
+    exchange::call(numbers, marks, words, bitmap, answer, call, b"");
+}
+
+// A machine starts, with the areas of a regions text. The record lent is ignored, but for its length.
+#[no_mangle]
+pub extern "C" fn szk_boot(
+    numbers: &mut [u64],
+    marks: &mut [u32],
+    words: &mut [u64],
+    bitmap: &mut [u64],
+    answer: &mut [u64],
+    base: u64,
+    frames: u64,
+    block_order: u64,
+    text: &[u8],
+)
+    ensures { λ _. ⌜ Exports (Call.Boot (frameOf base) frames «block_order») (now (text .entry)) numbers marks words bitmap answer ⌝ }
+{
+    let base = Frame(base);
+    let call = Call::Boot {
+        base,
+        frames,
+        block_order,
+    };
+    exchange::call(numbers, marks, words, bitmap, answer, call, text);
+}

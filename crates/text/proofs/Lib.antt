@@ -1,0 +1,10 @@
+pub mod Buffer
+pub mod Capping
+pub mod Classes
+pub mod Decimal
+pub mod Digits
+pub mod Filling
+pub mod Naming
+pub mod Sequence
+pub mod Texts
+pub mod Within
