@@ -1,6 +1,6 @@
 -- The laws of one word's bits. Assumes nothing.
 --     Change f v            f makes a bit v and leaves the rest: `setting` says so of setIn and 1, `clearing` of clearIn and 0
---     bit-here, bit-other   what f does to the bit, and to another; change-below: a number of k digits stays one
+--     bit-here, bit-other   what f does to the bit, and to another
 --     change-in             what a run's change within a word comes to, as a sum
 --     set-run-in, clear-run-in    the same as the code makes it
 --     bits-next, bits-le, bits-none    a run of bits as a number: one bit more; where it stands, it is part of the word; it is none
@@ -10,9 +10,9 @@ use native.Mathlib.Numerals.{add-one}
 use native.Mathlib.Omega.{arith}
 use mathlib.Core.Path.{_≡_, sym, ap, subst, _∙_}
 use mathlib.Core.Logic.{_≢_}
-use lib.Arith.{digits-lt, digits-div, digits-mod}
+use lib.Arith.{digits-div, digits-mod}
 use lib.Bits.{bitOr, or-add-and, and-high}
-use lib.Pow.{pow-pos, pow-mono, pow-add, split, high, low, field, mod-mod-pow, mod-pow-add, shr-shr, shr-lt, shl-shr}
+use lib.Pow.{pow-pos, pow-mono, split, high, low, field, mod-mod-pow, mod-pow-add, shr-shr, shl-shr}
 use Rattle.search.proofs.Bools.{below-or-not}
 use Rattle.bitmap.specs.Bits.{bitOf, setIn, clearIn}
 use Rattle.bitmap.specs.steps.Words.{bitsOf, changeIn}
@@ -101,13 +101,6 @@ module _ {f : ℕ → ℕ → ℕ} {v : ℕ} (ch : Change f v) where
       (λ h.
       let more : suc s ≤ t = omega arith in
       high-bit (f w s) (suc s) t more ∙ ap (λ (x : ℕ). bitOf x (t - suc s)) (above-bit w s) ∙ sym (high-bit w (suc s) t more))
-
-  pub change-below : (k w s : ℕ) → s < k → w < 2 ^ k → f w s < 2 ^ k
-  change-below k w s h l =
-      let m = k - suc s in
-      let tall : w / 2 ^ suc s < 2 ^ m = shr-lt m (suc s) (subst (λ (x : ℕ). w < 2 ^ x) (omega arith) l) in
-      let whole : 2 ^ m * 2 * 2 ^ s ≡ 2 ^ k = ap (λ (x : ℕ). x * 2 ^ s) (sym (pow-suc 2 m)) ∙ sym (pow-add 2 (suc m) s) ∙ ap (λ (x : ℕ). 2 ^ x) (omega arith) in
-      rw (new-parts w s, ← whole) (digits-lt (digits-lt tall (ch .bit)) (mod-lt w (pow-pos s)))
 
   -- the change of a run within a word: what the run held goes, and v at each of its bits comes
   pub change-in : (w s d : ℕ) → changeIn f w s d + (bitsOf w s d * 2 ^ s + v * 2 ^ s) ≡ w + v * 2 ^ (s + d)

@@ -1,7 +1,6 @@
 // Ranges of the lent tables that take one value. What lies past the end of a table is left out.
 ghost use Prim.Native.Nat.{_+_, min};
 ghost use mathlib.Core.Path.{_≡_};
-ghost use lib.ListN.{length};
 ghost use Rattle.frames.specs.Tables.{fill};
 use crate::Place;
 

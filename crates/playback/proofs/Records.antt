@@ -28,7 +28,7 @@ use Rattle.records.proofs.Texts.{line-most}
 use Rattle.records.proofs.Decoding.{whole-within}
 use Rattle.playback.specs.declared.Progress.{Progress}
 use Rattle.playback.specs.declared.Stop.the-variants as Stop
-use Rattle.playback.specs.Playback.{answerTo, hasRoomFor, room, lastStep, Playing, playing, lineFor, machineOf, progressAfter, answerOne, stopFor, followed, answerUpTo, answerRecords}
+use Rattle.playback.specs.Playback.{answerTo, hasRoomFor, room, lastStep, Playing, playing, lineFor, machineHolding, progressAfter, answerOne, stopFor, followed, answerUpTo, answerRecords}
 
 -- ---- one record
 
@@ -48,7 +48,7 @@ line-has-room out p a b c h =
     le-leb (p .text + length (lineOf (p .step) a b c)) (length out) (omega (arith, line-most (p .step) a b c))
 
 after-line : (p : Progress) (size next : ℕ) (after : List ℕ) (o : Outcome) → Playing
-after-line p size next after o = playing (record { machine = machineOf (o .machine); at = p .at + size; text = next; step = p .step + 1 }) after (o .left)
+after-line p size next after o = playing (record { machine = machineHolding (o .machine); at = p .at + size; text = next; step = p .step + 1 }) after (o .left)
 
 pub one-answered :
     (p : Progress) (out : List ℕ) (t : Tables) (r : Call) (size : ℕ) (o : Returned) (marks words bitmap after : List ℕ) (next : ℕ)

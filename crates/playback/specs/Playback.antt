@@ -75,13 +75,13 @@ abbrev pub lineFor : ℕ → Answer → List ℕ
 lineFor step a = lineOf step (a .refusal) (a .first) (a .second)
 
 -- the machine of a record
-abbrev pub machineOf : Record → Machine
-machineOf m = record { «record» = m }
+abbrev pub machineHolding : Record → Machine
+machineHolding m = record { «record» = m }
 
 -- after a record of a size: its call is made, its line written, and its step counted
 abbrev pub progressAfter : Progress → Outcome → ℕ → Progress
 progressAfter p o size =
-    record { machine = machineOf (o .machine); at = p .at + size; text = p .text + length (lineFor (p .step) (o .answer)); step = p .step + 1 }
+    record { machine = machineHolding (o .machine); at = p .at + size; text = p .text + length (lineFor (p .step) (o .answer)); step = p .step + 1 }
 
 unfoldable pub answerOne : Playing → Call → ℕ → Playing
 answerOne s call size =

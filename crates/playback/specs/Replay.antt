@@ -17,7 +17,7 @@ use Rattle.records.specs.Lines.{heading, badLine, endLine}
 use Rattle.playback.specs.declared.Progress.{Progress}
 use Rattle.playback.specs.declared.Stop.{Stop}
 use Rattle.playback.specs.declared.Stop.the-variants as Stop
-use Rattle.playback.specs.Playback.{answerTo, lineFor, machineOf, playing, Played, answerRecords}
+use Rattle.playback.specs.Playback.{answerTo, lineFor, machineHolding, playing, Played, answerRecords}
 
 -- how many frames the program holds, and how many bitmap words it lends
 abbrev pub heldFrames : ℕ
@@ -69,7 +69,7 @@ textOf end = let p = end .stopped .progress in take (p .text) (end .out) ++ last
 
 -- at the start: a fresh machine, and the heading in the buffer
 abbrev pub fresh : Progress
-fresh = record { machine = machineOf freshRecord; at = 0; text = length heading; step = 0 }
+fresh = record { machine = machineHolding freshRecord; at = 0; text = length heading; step = 0 }
 
 -- where the buffer never was too full, the records answered from the start on give the whole output
 abbrev pub WholeOutput : Type 0
