@@ -82,8 +82,8 @@ impl Machine {
         if !request.amounts_are_right() {
             return Err(refusal::ARGUMENT);
         }
-        if request.order > self.order {
-            return Err(refusal::ORDER);
+        if request.order > self.order || self.limit_is_small(request) {
+            return Err(refusal::ORDER_OR_LIMIT);
         }
         let search = self.rounded(request);
         let mut area = Area { base: 0, count: search.size / PAGE, order: request.order };
@@ -102,13 +102,25 @@ impl Machine {
         self.end() * PAGE
     }
 
+    /// A: the alignment, or a block where that is more.
+    fn step(&self, request: &Request) -> u64 {
+        request.alignment.max(PAGE << self.order)
+    }
+
+    /// A limit was given, and it rounds down to 0.
+    fn limit_is_small(&self, request: &Request) -> bool {
+        request.limit != 0 && request.limit < self.step(request)
+    }
+
+    /// The request after rounding, its limit cut to memory. Not for a limit
+    /// that rounds to 0.
     fn rounded(&self, request: &Request) -> Search {
-        let step = request.alignment.max(PAGE << self.order);
+        let step = self.step(request);
         let limit = request.limit / step * step;
         Search {
             base: round_up(request.base, step),
             size: round_up(request.size, step),
-            limit: if limit == 0 || limit > self.end_byte() { self.end_byte() } else { limit },
+            limit: if request.limit == 0 { self.end_byte() } else { limit.min(self.end_byte()) },
             step,
         }
     }

@@ -1,6 +1,7 @@
-//! A plain implementation of document 01: the machine record, its calls, the
-//! regions text and the replay of records. It uses no tricks on purpose: it is
-//! here to be compared, call by call, with the proved library.
+//! A plain implementation of document 01, with the requests of document 02
+//! that have landed: the machine record, its calls, the regions text and the
+//! replay of records. It uses no tricks on purpose: it is here to be compared,
+//! call by call, with the proved library.
 
 pub mod areas;
 pub mod calls;

@@ -3,7 +3,8 @@
 /// Bytes in a page.
 pub const PAGE: u64 = 4096;
 
-/// Refusal numbers, as document 01 lists them.
+/// Refusal numbers, as document 01 lists them. 11 is a k above b or, by
+/// document 02, a limit that cannot be kept.
 pub mod refusal {
     pub const DONE: u64 = 0;
     pub const SHAPE: u64 = 1;
@@ -16,7 +17,7 @@ pub mod refusal {
     pub const NO_TARGET: u64 = 8;
     pub const RELEASE: u64 = 9;
     pub const EIGHT_AREAS: u64 = 10;
-    pub const ORDER: u64 = 11;
+    pub const ORDER_OR_LIMIT: u64 = 11;
     pub const NOT_FREE: u64 = 12;
     pub const NO_PLACE: u64 = 13;
     pub const BITMAP: u64 = 14;

@@ -302,7 +302,7 @@ fn some_region_name(rng: &mut Rng, index: usize) -> String {
 }
 
 fn some_region(rng: &mut Rng, state: &State, index: usize) -> String {
-    let block = PAGE << state.machine.order.min(10);
+    let block = block_bytes(state);
     let size = match rng.below(40) {
         0 => rng.extreme(),
         1..=20 => rng.within(1, 2 * block),
@@ -473,19 +473,40 @@ fn some_byte_place(rng: &mut Rng, state: &State) -> u64 {
     frame.saturating_sub(1) * PAGE + if rng.percent(80) { 0 } else { rng.below(2 * PAGE) }
 }
 
-fn some_limit(rng: &mut Rng, state: &State) -> u64 {
+/// The bytes of a block, in a record of any numbers.
+fn block_bytes(state: &State) -> u64 {
+    PAGE << state.machine.order.min(Machine::MAX_BLOCK_ORDER)
+}
+
+/// A limit that rounds to 0, or one that is just enough not to: around the
+/// block, around the alignment and around the larger of them.
+fn some_small_limit(rng: &mut Rng, state: &State, request: &Request) -> u64 {
+    let block = block_bytes(state);
+    let step = request.alignment.max(block);
+    let edge = rng.pick(&[step, step, step, block, request.alignment]);
+    match rng.below(10) {
+        0 => 1,
+        1 => rng.within(1, step),
+        2 => step.wrapping_mul(2).wrapping_sub(1),
+        _ => edge.wrapping_add(rng.below(3)).wrapping_sub(1),
+    }
+}
+
+/// A limit for a request whose other numbers are chosen.
+fn some_limit(rng: &mut Rng, state: &State, request: &Request) -> u64 {
     match rng.below(100) {
-        0..=59 => 0,
-        60..=89 => some_byte_place(rng, state),
-        90..=93 => rng.below(9000),
+        0..=54 => 0,
+        55..=79 => some_byte_place(rng, state),
+        80..=93 => some_small_limit(rng, state, request),
         _ => Machine::MAX_AMOUNT + rng.below(2),
     }
 }
 
-fn some_alignment(rng: &mut Rng) -> u64 {
+fn some_alignment(rng: &mut Rng, block: u64) -> u64 {
     match rng.below(100) {
-        0..=59 => 0,
-        60..=89 => 1 << rng.below(19),
+        0..=54 => 0,
+        55..=74 => 1 << rng.below(19),
+        75..=89 => block << rng.within(1, 4),
         90..=94 => 1 << rng.below(64),
         _ => rng.extreme(),
     }
@@ -493,8 +514,8 @@ fn some_alignment(rng: &mut Rng) -> u64 {
 
 fn some_request(rng: &mut Rng, state: &State) -> Request {
     let order = state.machine.order.min(64);
-    let block = PAGE << order.min(10);
-    Request {
+    let block = block_bytes(state);
+    let request = Request {
         base: match rng.below(100) {
             0..=39 => 0,
             40..=95 => some_byte_place(rng, state),
@@ -506,15 +527,16 @@ fn some_request(rng: &mut Rng, state: &State) -> Request {
             93 => 0,
             _ => rng.extreme(),
         },
-        limit: some_limit(rng, state),
-        alignment: some_alignment(rng),
+        limit: 0,
+        alignment: some_alignment(rng, block),
         order: match rng.below(100) {
             0..=89 => rng.within(0, order),
             90..=96 => order + 1,
             _ => rng.extreme(),
         },
         fixed: rng.percent(50),
-    }
+    };
+    Request { limit: some_limit(rng, state, &request), ..request }
 }
 
 fn some_release(rng: &mut Rng, state: &State) -> Call {

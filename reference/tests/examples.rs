@@ -1,4 +1,4 @@
-//! Every example of document 01.
+//! Every example of document 01, as document 02 has it.
 
 use reference::machine::{field_of, kind_of};
 use reference::replay::{encode, replay};
@@ -119,7 +119,7 @@ fn e10() {
     let declare = |limit| Call::Declare(Request { size: 1, limit, ..Request::default() });
     assert_eq!(ask(&mut no_areas(), declare(0)), (0, 32, 4));
     assert_eq!(ask(&mut no_areas(), declare(100_000)), (0, 20, 4));
-    assert_eq!(ask(&mut no_areas(), declare(100)), (0, 32, 4));
+    assert_eq!(ask(&mut no_areas(), declare(100)), (11, 0, 0));
 }
 
 #[test]

@@ -318,6 +318,69 @@ fn declare_at_eight_areas() {
         assert_eq!(ask(&mut state, one), (0, 32 - area, 1));
     }
     assert_eq!(declare(&state, request(0, 0, u64::MAX, 3)).0, 10);
+    assert_eq!(declare(&state, request(0, 1, 1, 0)).0, 10);
+}
+
+/// What a declare of one byte answers, by its limit and its alignment.
+fn limited(state: &State, limit: u64, alignment: u64) -> (u64, u64, u64) {
+    declare(state, request(0, 1, limit, alignment))
+}
+
+#[test]
+fn a_small_limit_is_refused() {
+    let state = two_areas();
+    let refused = (11, 0, 0);
+    // A is the block, two pages. Memory starts at frame 8, so a place must end at frame 10 or above.
+    assert_eq!(limited(&state, 0, 0), (0, 38, 2));
+    for limit in [1, 100, PAGE, 2 * PAGE - 1] {
+        assert_eq!(limited(&state, limit, 0), refused);
+        assert_eq!(limited(&state, limit, 1), refused);
+        assert_eq!(limited(&state, limit, 2 * PAGE), refused);
+    }
+    for limit in [2 * PAGE, 2 * PAGE + 1, 10 * PAGE - 1] {
+        assert_eq!(limited(&state, limit, 0), (13, 0, 0));
+    }
+    assert_eq!(limited(&state, 10 * PAGE, 0), (0, 8, 2));
+    // A is the alignment, eight pages.
+    assert_eq!(limited(&state, 0, 8 * PAGE), (0, 24, 8));
+    assert_eq!(limited(&state, 2 * PAGE, 8 * PAGE), refused);
+    assert_eq!(limited(&state, 8 * PAGE - 1, 8 * PAGE), refused);
+    assert_eq!(limited(&state, 8 * PAGE, 8 * PAGE), (13, 0, 0));
+    assert_eq!(limited(&state, 8 * PAGE + 1, 8 * PAGE), (13, 0, 0));
+    assert_eq!(limited(&state, 16 * PAGE, 8 * PAGE), (0, 8, 8));
+    // The largest alignment, and a limit that is then past the end of memory.
+    let top = 1 << 48;
+    assert_eq!(limited(&state, top - 1, top), refused);
+    assert_eq!(limited(&state, top, top), (14, 0, 0));
+}
+
+#[test]
+fn a_small_limit_is_refused_with_any_base() {
+    let state = two_areas();
+    for base in [0, 1, 8 * PAGE, 16 * PAGE, 1 << 48] {
+        for fixed in [false, true] {
+            let says = |limit| declare(&state, Request { fixed, ..request(base, 1, limit, 0) }).0;
+            assert_eq!((says(1), says(2 * PAGE - 1)), (11, 11));
+            assert_ne!(says(0), 11);
+        }
+    }
+    assert_eq!(declare(&state, Request { fixed: true, ..request(8 * PAGE, 1, 10 * PAGE, 0) }), (0, 8, 2));
+}
+
+#[test]
+fn a_small_limit_stands_with_a_high_order() {
+    let mut state = two_areas();
+    let small = request(0, 1, 1, 0);
+    assert_eq!(declare(&state, Request { order: 2, ..small }).0, 11);
+    assert_eq!(declare(&state, Request { size: 0, ..small }).0, 2);
+    assert_eq!(declare(&state, Request { alignment: 3, ..small }).0, 2);
+    // The bitmap is too short for a third area.
+    state.bitmap.truncate(2);
+    assert_eq!(declare(&state, request(0, 1, 0, 0)).0, 14);
+    assert_eq!(declare(&state, request(0, 1, 2 * PAGE - 1, 0)).0, 11);
+    assert_eq!(declare(&state, request(0, 1, 2 * PAGE, 0)).0, 14);
+    state.machine.order = 11;
+    assert_eq!(declare(&state, small).0, 1);
 }
 
 #[test]
@@ -330,8 +393,8 @@ fn declare_at_a_fixed_base() {
     assert_eq!(declare(&state, fixed(38, 2)), (0, 38, 2));
     assert_eq!(declare(&state, fixed(38, 4)), (13, 0, 0));
     assert_eq!(declare(&state, fixed(8, 10)), (12, 0, 0));
-    // Base is rounded up to the block, and the limit is not consulted.
-    assert_eq!(declare(&state, Request { limit: 1, ..fixed(9, 1) }), (0, 10, 2));
+    // Base is rounded up to the block, and a limit below the range is not consulted.
+    assert_eq!(declare(&state, Request { limit: 2 * PAGE, ..fixed(9, 1) }), (0, 10, 2));
     // Base 0 cancels fixed.
     assert_eq!(declare(&state, fixed(0, 1)), (0, 38, 2));
     state.marks[0] = mark_of(3, 0);

@@ -1,8 +1,8 @@
 //! The generated calls: what they reach, and what must hold for all of them.
 
-use reference::machine::{kind, kind_of};
+use reference::machine::{kind, kind_of, PAGE};
 use reference::sample::{break_shape, call, possible_pairs, records, right_state, run, text, Rng, FAULTS};
-use reference::{Answer, Call, State};
+use reference::{Answer, Call, Request, State};
 use std::collections::{BTreeMap, HashMap};
 
 const CALLS: u64 = 1_000_000;
@@ -84,6 +84,45 @@ fn the_same_seed_gives_the_same_list() {
     assert_eq!(collect(5), collect(5));
     assert_ne!(collect(5), collect(6));
     assert_eq!(records(5, 200), records(5, 200));
+}
+
+/// Runs calls, and tells of each declare that is not refused with 1, 10 or 2: the state before, the request, A, the answer.
+fn judged_declares(seed: u64, calls: u64, tell: &mut dyn FnMut(&State, &Request, u64, Answer)) {
+    run(seed, calls, &mut |before, call, _, answer| match call {
+        Call::Declare(request) if ![1, 10, 2].contains(&answer.refusal) => {
+            let step = request.alignment.max(PAGE << before.machine.order);
+            tell(before, request, step, answer);
+        }
+        _ => {}
+    });
+}
+
+/// For A from the block or from the alignment, and fixed or not: a limit of A - 1, A and A + 1.
+#[test]
+fn limits_on_both_sides_of_the_step_occur() {
+    let mut seen: BTreeMap<(bool, bool, u64), u64> = BTreeMap::new();
+    judged_declares(10, 400_000, &mut |before, request, step, answer| {
+        let small = request.limit != 0 && request.limit < step;
+        assert!(!small || answer.refusal == 11, "{request:?}");
+        let is_block = step == PAGE << before.machine.order;
+        if (step - 1..=step + 1).contains(&request.limit) {
+            *seen.entry((is_block, request.fixed, request.limit + 1 - step)).or_default() += 1;
+        }
+    });
+    assert!(seen.len() == 12 && seen.values().all(|&times| times >= 50), "{seen:?}");
+}
+
+#[test]
+fn an_area_that_is_not_fixed_ends_at_or_below_its_limit() {
+    let mut accepted = 0;
+    judged_declares(11, 400_000, &mut |_, request, _, answer| {
+        let is_fixed = request.fixed && request.base != 0;
+        if answer.refusal == 0 && request.limit != 0 && !is_fixed {
+            accepted += 1;
+            assert!((answer.first + answer.second) * PAGE <= request.limit, "{request:?}");
+        }
+    });
+    assert!(accepted > 200, "{accepted}");
 }
 
 #[test]

@@ -5,7 +5,7 @@ use Rattle.rules.proofs.promises.Bitmaps.{area-layout, bitmap-layout}
 use Rattle.rules.proofs.promises.BootNumbers.{boot-answers-place}
 use Rattle.rules.proofs.promises.Boots.{boot-looks-at-lengths, accepted-boot}
 use Rattle.rules.proofs.promises.DeclaredShape.{declare-keeps-shape}
-use Rattle.rules.proofs.promises.Declares.{accepted-declare}
+use Rattle.rules.proofs.promises.Declares.{declare-keeps-to-limit, accepted-declare}
 use Rattle.rules.proofs.promises.HighestPlace.{declare-takes-highest}
 use Rattle.rules.proofs.promises.Numbers.{refused-exactly, refusal-has-zeros}
 use Rattle.rules.proofs.promises.Places.{base-zero-cancels-fixed}
@@ -49,6 +49,7 @@ all-promises =
       limit = limit-rounds;
       base-zero = base-zero-cancels-fixed;
       highest = declare-takes-highest;
+      reach = declare-keeps-to-limit;
       declare = accepted-declare;
       shape-kept = declare-keeps-shape;
       boot-lengths = boot-looks-at-lengths;

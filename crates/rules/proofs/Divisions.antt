@@ -3,9 +3,13 @@
 --     ceiling-some              it is 0 for 0 alone
 --     up-low, up-high           a number rounded up is at or above it, by less than the divisor
 --     down-low, down-high, down-below    a number rounded down is at or below it, by less than the divisor
-use Prim.Native.Nat.{ℕ, suc, _+_, _-_, _*_, _≤_, _<_}
+--     rounds-to-none            just what is less than the divisor is rounded down to 0
+use Prim.Native.Nat.{ℕ, suc, _+_, _-_, _*_, _/_, _≤_, _<_}
 use native.Mathlib.Omega.{arith}
-use native.Mathlib.Nat.{one-mul, le-div-iff-mul-le, div-lt-iff-lt-mul, div-mul-le-self, lt-div-mul-add}
+use mathlib.Core.Path.{_≡_, sym, ap, _∙_}
+use lib.Dec.{ltb, eqb}
+use borrow.Author.Tests.{eq-eqb, ne-eqb, lt-ltb, le-ltb}
+use native.Mathlib.Nat.{one-mul, zero-mul, le-div-iff-mul-le, div-lt-iff-lt-mul, div-mul-le-self, lt-div-mul-add}
 use Rattle.search.proofs.Bools.{below-or-not}
 use Rattle.frames.specs.Areas.{ceiling}
 use Rattle.rules.specs.Declare.{roundUp, roundDown}
@@ -37,6 +41,16 @@ module _ (x d : ℕ) (h : 0 < d) where
 
   pub up-high : roundUp x d < x + d
   up-high = let below = div-mul-le-self (x + (d - 1)) d in omega arith
+
+  down-small : x < d → roundDown x d ≡ 0
+  down-small l =
+      below-or-not 0 (x / d) (λ some. absurd (let k : 1 * d ≤ x = le-div-iff-mul-le h .0 some in omega arith))
+      (λ none. let z : x / d ≡ 0 = omega arith in ap (λ (q : ℕ). q * d) z ∙ zero-mul d)
+
+  pub rounds-to-none : eqb (roundDown x d) 0 ≡ ltb x d
+  rounds-to-none =
+      below-or-not x d (λ l. eq-eqb (roundDown x d) 0 (down-small l) ∙ sym (lt-ltb x d l))
+      (λ l. ne-eqb (roundDown x d) 0 (λ z. absurd (omega (arith, down-high))) ∙ sym (le-ltb x d l))
 
 -- a number rounded down is below what the number is below
 pub down-below : (x d n : ℕ) → x < n → roundDown x d < n

@@ -1,15 +1,17 @@
 -- The amounts of a request that is not bad, rounded. Assumes nothing.
 --     Asked, asked                what the tests of a request say
 --     Blocks, alignment-blocks    an alignment for a declaration is a number of blocks, and so is what is rounded to it
+--     limit-high, limit-given     the limit is in memory, and not above what was given unless that vanishes
 --     Amounts, amounts            how large the rounded amounts can be
 use Prim.Native.Nat.{ℕ, suc, _+_, _-_, _*_, _/_, _%_, _^_, _≤_, _<_}
 use native.Mathlib.Omega.{arith}
 use native.Mathlib.Nat.{mul-assoc, mul-comm, mul-div-cancel, mul-mod-left, mul-pos, max-eq-left, max-eq-right, one-mul, pow-succ'}
-use mathlib.Core.Bool.{Bool, true, false, not, _||_}
+use mathlib.Core.Bool.{Bool, true, false, not, _&&_, _||_}
+use mathlib.Core.Logic.{_≢_}
 use mathlib.Core.Path.{_≡_, sym, ap, subst, _∙_}
 use lib.Dec.{ltb, eqb}
 use lib.Pow.{pow-pos, pow-mono, pow-add}
-use borrow.Author.Tests.{eqb-true, eqb-false, eq-eqb, ltb-false, not-false}
+use borrow.Author.Tests.{eqb-true, eqb-false, eq-eqb, ne-eqb, ltb-true, ltb-false, not-false}
 use Rattle.search.proofs.Bools.{by-cases, below-or-not, or-left, or-right}
 use Rattle.search.proofs.Ranges.{some-yes}
 use Rattle.frames.specs.Areas.{isMultiple}
@@ -17,10 +19,10 @@ use Rattle.text.specs.Numbers.{mostBytes}
 use Rattle.regions.specs.Amounts.{isPowerOfTwo, isAlignment}
 use Rattle.rules.specs.declared.Request.{Request}
 use Rattle.rules.specs.declared.Record.{Record}
-use Rattle.rules.specs.Declare.{badRequest, roundDown, alignmentFor, baseFor, sizeFor, limitFor, endByte}
+use Rattle.rules.specs.Declare.{badRequest, alignmentFor, baseFor, sizeFor, limitRounded, limitVanishes, limitFor, endByte}
 use Rattle.rules.specs.Limits.{mostBlockOrder, pageBytes}
 use Rattle.rules.specs.Shape.{memoryRight}
-use Rattle.rules.proofs.Divisions.{up-low, up-high}
+use Rattle.rules.proofs.Divisions.{up-low, up-high, down-low}
 use Rattle.rules.proofs.Shapes.{MemoryFacts, memory-known}
 
 pub record Asked (r : Request) : Type 0 where
@@ -129,9 +131,17 @@ alignment-some m r = omega (arith, pow-pos (m .memory .«block_order»))
 pub limit-high : (m : Record) (r : Request) → limitFor m r ≤ endByte m
 unfolding limitFor
 limit-high m r =
-    let limit = roundDown (r .limit) (alignmentFor m r) in
+    let limit = limitRounded m r in
     by-cases (eqb limit 0 || ltb (endByte m) limit) (λ e. rw e (omega arith))
     (λ e. rw e (ltb-false (endByte m) limit (or-right (eqb limit 0) (ltb (endByte m) limit) e)))
+
+pub limit-given : (m : Record) (r : Request) → r .limit ≢ 0 → limitVanishes m r ≡ false → limitFor m r ≤ r .limit
+unfolding limitFor
+limit-given m r given stays =
+    let limit = limitRounded m r in
+    let low : limit ≤ r .limit = down-low (r .limit) (alignmentFor m r) (alignment-some m r) in
+    let some : eqb limit 0 ≡ false = sym (ap (λ (b : Bool). not b && eqb limit 0) (ne-eqb (r .limit) 0 given)) ∙ stays in
+    by-cases (ltb (endByte m) limit) (λ e. rw (some, e) (omega (arith, ltb-true (endByte m) limit e))) (λ e. rw (some, e) low)
 
 pub record Amounts (m : Record) (r : Request) : Type 0 where
   pub blocks : Blocks (alignmentFor m r) (m .memory .«block_order»)

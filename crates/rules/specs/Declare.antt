@@ -55,11 +55,17 @@ startByte m = m .memory .base .0 * pageBytes
 abbrev pub endByte : Record → ℕ
 endByte m = endFrame m * pageBytes
 
--- the limit rounds down to A; one that is now 0, or past the end of memory, becomes the end
+-- the limit rounds down to A
+abbrev pub limitRounded : Record → Request → ℕ
+limitRounded m r = roundDown (r .limit) (alignmentFor m r)
+
+-- document 02, request (ii): a nonzero limit, as given, rounds to 0
+abbrev pub limitVanishes : Record → Request → Bool
+limitVanishes m r = not (eqb (r .limit) 0) && eqb (limitRounded m r) 0
+
+-- the limit, cut to memory: one that is now 0, or past the end of memory, becomes the end
 unfoldable pub limitFor : Record → Request → ℕ
-limitFor m r =
-    let limit = roundDown (r .limit) (alignmentFor m r) in
-    if eqb limit 0 || ltb (endByte m) limit then endByte m else limit
+limitFor m r = if eqb (limitRounded m r) 0 || ltb (endByte m) (limitRounded m r) then endByte m else limitRounded m r
 
 -- the area that begins at a byte
 abbrev pub areaFrom : Record → Request → ℕ → Area
@@ -116,6 +122,7 @@ declareChecks m r t =
     leb mostAreas (m .memory .declared) ⇒ 10 ∷
     badRequest r ⇒ 2 ∷
     ltb (m .memory .«block_order») (r .«order_per_bit») ⇒ 11 ∷
+    limitVanishes m r ⇒ 11 ∷
     ltb (length (t .bitmap)) (wordsNeeded m + wordCount (areaFor m r t)) ⇒ 14 ∷
     (isFixed m r && isOutside m r) ⇒ 13 ∷
     (isFixed m r && not (isVacant m t (areaFor m r t))) ⇒ 12 ∷

@@ -7,7 +7,7 @@ ghost use Rattle.search.specs.Choice.{if_then_else_};
 ghost use Rattle.text.specs.Numbers.{mostBytes};
 ghost use Rattle.rules.specs.Limits.{mostEnd, mostBlockOrder, pageBytes};
 ghost use Rattle.rules.specs.Shape.{memoryRight};
-ghost use Rattle.rules.specs.Declare.{badRequest, roundUp};
+ghost use Rattle.rules.specs.Declare.{badRequest, roundUp, roundDown};
 ghost use Rattle.setup.specs.steps.Plan.{Rounds, AmountsFit};
 use crate::units::byte_of_frame;
 use frames::Frame;
@@ -65,6 +65,17 @@ fn alignment_for(alignment: u64, block_order: u64) -> u64
         return alignment;
     }
     block
+}
+
+// A limit was given, and it is less than the alignment: rounded down it would be 0, which means no limit.
+pub(crate) fn limit_vanishes(limit: u64, alignment: u64) -> bool
+    requires { ⌜ 0 < alignment ⌝ }
+    ensures { λ r. ⌜ r ≡ (not (eqb limit 0) && eqb (roundDown limit alignment) 0) ⌝ }
+{
+    if limit == 0 {
+        return false;
+    }
+    limit < alignment
 }
 
 // A limit that is rounded; the end of memory where that is 0 or past it.

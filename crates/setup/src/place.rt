@@ -130,7 +130,7 @@ pub(crate) fn plan_fixed(
     requires { ⌜ badRequest request ≡ false ⌝ }
     requires { ⌜ Rounds memory request rounded ⌝ }
     requires { ⌜ isFixed (recordWith memory (now areas)) request ≡ true ⌝ }
-    ensures { λ r. ⌜ r ≡ planAfter 5 (given memory areas) request (planTables (now (marks .entry)) []) ⌝ }
+    ensures { λ r. ⌜ r ≡ planAfter 6 (given memory areas) request (planTables (now (marks .entry)) []) ⌝ }
 {
     let start = byte_of_frame(memory.base);
     let end = byte_of_frame(Frame(memory.base.0 + memory.frames));
@@ -163,7 +163,7 @@ pub(crate) fn plan_highest(
     requires { ⌜ badRequest request ≡ false ⌝ }
     requires { ⌜ Rounds memory request rounded ⌝ }
     requires { ⌜ isFixed (recordWith memory (now areas)) request ≡ false ⌝ }
-    ensures { λ r. ⌜ r ≡ planAfter 5 (given memory areas) request (planTables (now (marks .entry)) []) ⌝ }
+    ensures { λ r. ⌜ r ≡ planAfter 6 (given memory areas) request (planTables (now (marks .entry)) []) ⌝ }
 {
     let lowest = lowest_end(rounded, memory.base);
     let count = rounded.size / Record::PAGE_BYTES;

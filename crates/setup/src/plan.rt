@@ -12,6 +12,7 @@ ghost use Rattle.rules.specs.Declare.{badRequest, withArea};
 ghost use Rattle.setup.specs.steps.Plan.{planTables, planAfter, plan};
 use crate::amounts::is_bad_request;
 use crate::amounts::is_fixed;
+use crate::amounts::limit_vanishes;
 use crate::amounts::round;
 use crate::place::Plan;
 use crate::place::plan_fixed;
@@ -37,7 +38,7 @@ fn lacks_room(areas: &[u64], declared: u64, bitmap: &[u64], area: Area) -> bool
     room - used < area.words()
 }
 
-// Whether the bitmap has room for the area, which its size alone says, and where the area goes.
+// Whether the limit is one, whether the bitmap has room for the area, which its size alone says, and where the area goes.
 fn plan_rounded(
     memory: Memory,
     areas: &[u64],
@@ -50,6 +51,10 @@ fn plan_rounded(
     ensures { λ r. ⌜ r ≡ planAfter 4 (given memory areas) request (planTables (now (marks .entry)) (now (bitmap .entry))) ⌝ }
 {
     let rounded = round(memory, request);
+    let fixed = is_fixed(request.fixed, rounded.base);
+    if limit_vanishes(request.limit, rounded.alignment) {
+        return Plan::Not(refusal::ORDER_OR_LIMIT);
+    }
     let sized = Area {
         base: Frame(0),
         count: rounded.size / Record::PAGE_BYTES,
@@ -58,7 +63,7 @@ fn plan_rounded(
     if lacks_room(areas, memory.declared, bitmap, sized) {
         return Plan::Not(refusal::BITMAP_TOO_SHORT);
     }
-    if is_fixed(request.fixed, rounded.base) {
+    if fixed {
         return plan_fixed(memory, areas, marks, request, rounded);
     }
     plan_highest(memory, areas, marks, request, rounded)
@@ -82,7 +87,7 @@ pub(crate) fn plan_area(
         return Plan::Not(refusal::OUT_OF_RANGE);
     }
     if memory.block_order < request.order_per_bit {
-        return Plan::Not(refusal::BIT_ABOVE_BLOCK);
+        return Plan::Not(refusal::ORDER_OR_LIMIT);
     }
     plan_rounded(memory, areas, marks, bitmap, request)
 }

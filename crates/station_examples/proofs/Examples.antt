@@ -1,7 +1,7 @@
--- Document 01's starred examples hold of the definitions: the checker computes the whole list. Assumes nothing.
+-- The examples hold of the definitions: the checker computes the whole list. Assumes nothing.
 use mathlib.Core.Bool.{true}
 use mathlib.Core.Path.{_≡_, refl}
-use Rattle.search.specs.Search.{lowestFrom, lowest, some, every, howMany}
+use Rattle.search.specs.Search.{lowestFrom, lowest, highestFrom, some, every, howMany}
 use Rattle.bitmap.specs.Bits.{isClear, changeBit, changeBits}
 use Rattle.frames.specs.Areas.{inAreas, firstWord}
 use Rattle.frames.specs.Tables.{fill}
@@ -11,11 +11,11 @@ use Rattle.rules.specs.Shape.{memoryRight, lengthsRight, areaRight, areaFits, s
 use Rattle.rules.specs.Outcomes.{checked}
 use Rattle.rules.specs.PageCalls.{pageAt, freeOrdinary, freeInArea, putAt, putPage, dropPage, changeKind}
 use Rattle.rules.specs.DeviceCalls.{isCandidate, isGrantable, chosen, movers, targets, movePage, moveOut, takeRun, grant, laterFrames, freeRun, release}
-use Rattle.rules.specs.Declare.{alignmentFor, baseFor, sizeFor, limitFor, isVacant, declare}
+use Rattle.rules.specs.Declare.{alignmentFor, baseFor, sizeFor, limitFor, isVacant, fitsAt, highestFit, declare}
 use Rattle.rules.specs.Boot.{declareAll, bootRecord, boot}
 use Rattle.station_examples.specs.Claim.{isRight, allRight}
 use Rattle.station_examples.specs.Examples.{examples}
 
 pub examples-hold : allRight examples ≡ true
-unfolding isRight allRight lowestFrom lowest some every howMany isClear changeBit changeBits inAreas firstWord fill isPowerOfTwo regionsFrom regions memoryRight lengthsRight areaRight areaFits shapeRight checked pageAt freeOrdinary freeInArea putAt putPage dropPage changeKind isCandidate isGrantable chosen movers targets movePage moveOut takeRun grant laterFrames freeRun release alignmentFor baseFor sizeFor limitFor isVacant declare declareAll bootRecord boot
+unfolding isRight allRight lowestFrom lowest highestFrom some every howMany isClear changeBit changeBits inAreas firstWord fill isPowerOfTwo regionsFrom regions memoryRight lengthsRight areaRight areaFits shapeRight checked pageAt freeOrdinary freeInArea putAt putPage dropPage changeKind isCandidate isGrantable chosen movers targets movePage moveOut takeRun grant laterFrames freeRun release alignmentFor baseFor sizeFor limitFor isVacant fitsAt highestFit declare declareAll bootRecord boot
 examples-hold = refl

@@ -1,6 +1,6 @@
--- Document 01, "Station examples": those that are marked with a star.
+-- Document 01, "Station examples": those that are marked with a star, and E10, whose last answer document 02's request (ii) changed.
 use Prim.Native.Nat.{ℕ, suc}
-use mathlib.Core.Bool.{true}
+use mathlib.Core.Bool.{true, false}
 use mathlib.Core.List.{List, [], _∷_, _++_}
 use Rattle.answer.specs.Answers.{done, refused}
 use Rattle.frames.specs.Units.{frame}
@@ -8,12 +8,16 @@ use Rattle.rules.specs.declared.Call.the-variants as Call
 use Rattle.rules.specs.declared.Request.{Request}
 use Rattle.station_examples.specs.Claim.{Step, _answers_, Mark, _holds_, Example}
 
--- P 4, n 32, b 2, no regions; then a fixed declare of frames 8 to 23
+-- P 4, n 32, b 2, no regions
+abbrev noAreas : List Step
+noAreas = Call.Boot (frame 4) 32 2 answers done 0 0 ∷ []
+
+-- then a fixed declare of frames 8 to 23
 abbrev frames8to23 : ℕ → Request
 frames8to23 k = record { base = 32768; size = 65536; limit = 0; alignment = 0; «order_per_bit» = k; fixed = true }
 
 abbrev machineWith : ℕ → List Step
-machineWith k = Call.Boot (frame 4) 32 2 answers done 0 0 ∷ Call.Declare (frames8to23 k) answers done 8 16 ∷ []
+machineWith k = noAreas ++ (Call.Declare (frames8to23 k) answers done 8 16 ∷ [])
 
 abbrev machineA : List Step
 machineA = machineWith 0
@@ -32,6 +36,10 @@ E6 =
     machineA ++
     puts 1 (4 ∷ 5 ∷ 6 ∷ 7 ∷ 24 ∷ 25 ∷ 26 ∷ 27 ∷ 28 ∷ 29 ∷ 30 ∷ 31 ∷ 32 ∷ 33 ∷ 34 ∷ 35 ∷ 8 ∷ 9 ∷ []) ++
     (Call.Grant 0 1 0 answers refused 8 ∷ [])
+
+-- a declare of size 1 with a limit, all else 0
+abbrev sizeOne : ℕ → Request
+sizeOne limit = record { base = 0; size = 1; limit = limit; alignment = 0; «order_per_bit» = 0; fixed = false }
 
 abbrev example : List Step → List Mark → Example
 example steps marks = record { steps = steps; marks = marks }
@@ -56,4 +64,8 @@ examples =
     example (E1 ++ (Call.Release 0 (frame 8) 2 answers refused 9 ∷ Call.Release 0 (frame 9) 1 answers refused 3 ∷ [])) [] ∷
     -- E9
     example (machineWith 2 ++ (Call.Grant 0 5 0 answers done 8 0 ∷ Call.Grant 0 1 0 answers done 16 0 ∷ [])) (8 holds 44 ∷ 9 holds 5 ∷ 10 holds 5 ∷ 11 holds 5 ∷ 12 holds 5 ∷ 13 holds 0 ∷ 16 holds 12 ∷ []) ∷
+    -- E10
+    example (noAreas ++ (Call.Declare (sizeOne 0) answers done 32 4 ∷ [])) [] ∷
+    example (noAreas ++ (Call.Declare (sizeOne 100000) answers done 20 4 ∷ [])) [] ∷
+    example (noAreas ++ (Call.Declare (sizeOne 100) answers refused 11 ∷ [])) [] ∷
     []

@@ -2,7 +2,7 @@
 use Prim.Native.Nat.{ℕ, _+_, _*_, _^_, _≤_, _<_}
 use native.Mathlib.Omega.{arith}
 use mathlib.Core.Path.{_≡_, refl, sym, ap, subst}
-use mathlib.Core.Logic.{inl, inr, _↔_}
+use mathlib.Core.Logic.{inl, inr, ⊎-elim, _↔_}
 use mathlib.Core.Bool.{Bool, not, _&&_}
 use lib.Dec.{leb, ltb, eqb}
 use lib.ListN.{length}
@@ -17,10 +17,11 @@ use Rattle.rules.specs.declared.Request.{Request}
 use Rattle.rules.specs.declared.Record.{Record}
 use Rattle.rules.specs.Outcomes.{Outcome}
 use Rattle.rules.specs.Shape.{wordsNeeded}
-use Rattle.rules.specs.Declare.{badRequest, alignmentFor, baseFor, sizeFor, isFixed, startByte, endByte, areaFrom, areaFor, isVacant, isOutside, firstMultiple, multiples, highestFit, startFor, declareChecks, declare}
+use Rattle.rules.specs.Declare.{badRequest, alignmentFor, baseFor, sizeFor, isFixed, limitRounded, limitVanishes, startByte, endByte, areaFrom, areaFor, isVacant, isOutside, firstMultiple, multiples, highestFit, startFor, declareChecks, declare}
 use Rattle.rules.specs.promises.Declares.{AtBase, RangeOutside, RangeTaken, NoPlace}
-use Rattle.rules.specs.promises.Numbers.{BadAmounts, ShortBitmap, declareRefusal}
-use Rattle.rules.proofs.Rounding.{Amounts, amounts}
+use Rattle.rules.specs.promises.Numbers.{BadAmounts, SmallLimit, ShortBitmap, declareRefusal}
+use Rattle.rules.proofs.Divisions.{rounds-to-none}
+use Rattle.rules.proofs.Rounding.{Amounts, amounts, alignment-some}
 use Rattle.rules.proofs.Says.{Says, says-is, says-false, says-yes, says-ltb, says-leb, says-eqb, says-not, says-and, says-or, says-right, says-some}
 use Rattle.rules.proofs.ShapeFacts.{shape-memory}
 use Rattle.rules.proofs.promises.HighestPlace.{found-highest, none-allowed}
@@ -58,6 +59,16 @@ bad-amounts r =
     (λ _. power-says (r .alignment) (below-or-not (2 ^ 48) (r .alignment) (λ h. absurd (none (inl (inr h)))) (λ h. h)))))))))
 
 module _ (m : Record) (r : Request) (t : Tables) where
+  below-alignment : Says (eqb (limitRounded m r) 0) (r .limit < alignmentFor m r)
+  below-alignment = rw (rounds-to-none (r .limit) (alignmentFor m r) (alignment-some m r)) (says-ltb (r .limit) (alignmentFor m r))
+
+  small-limit : Says (limitVanishes m r) (SmallLimit m r)
+  unfolding alignmentFor
+  small-limit =
+      says-is (λ w. (w .0, below-or-not (r .limit) (r .alignment) inl (λ h. inr (omega (arith, w .1)))))
+      (λ w. (w .0, ⊎-elim (λ l. omega arith) (λ l. omega arith) (w .1)))
+      (says-and (says-not (says-eqb (r .limit) 0)) (λ _. below-alignment))
+
   short-bitmap : Says (ltb (length (t .bitmap)) (wordsNeeded m + wordCount (areaFor m r t))) (ShortBitmap m r t)
   short-bitmap = says-ltb _ _
 
@@ -105,13 +116,15 @@ declare-numbers m r t done =
     (λ good.
     rung (says-ltb (m .memory .«block_order») (r .«order_per_bit»))
     (λ order.
+    rung (small-limit m r t)
+    (λ limit.
     rung (short-bitmap m r t)
     (λ words.
     let rounded = amounts m r (shape-memory m t (says-yes (shape-says m t) shape)) (says-false (bad-amounts r) good) in
     rung (range-outside m r t)
     (λ inside.
     rung (not-vacant m r t rounded inside)
-    (λ _. rung (says-and (anywhere m r) (λ _. highest-says m r t rounded)) (λ _. foot done))))))))
+    (λ _. rung (says-and (anywhere m r) (λ _. highest-says m r t rounded)) (λ _. foot done)))))))))
 
 pub declare-exactly : (m : Record) (r : Request) (t : Tables) (n : ℕ) → (declare m r t .answer .refusal ≡ n) ↔ declareRefusal r m t n
 unfolding declare

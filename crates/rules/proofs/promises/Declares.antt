@@ -3,8 +3,11 @@ use Prim.Native.Nat.{ℕ, _+_, _*_, _/_, _≤_, _<_}
 use native.Mathlib.Omega.{arith}
 use mathlib.Core.Path.{_≡_, refl, sym, ap, subst, _∙_}
 use mathlib.Core.Bool.{Bool}
+use mathlib.Core.Logic.{_≢_}
 use Rattle.search.specs.Choice.{if_then_else_}
 use Rattle.search.proofs.Bools.{below-or-not}
+use Rattle.answer.specs.declared.Answer.{Answer}
+use Rattle.answer.specs.Answers.{done}
 use Rattle.frames.specs.declared.Area.{Area}
 use Rattle.frames.specs.Areas.{wordCount}
 use Rattle.frames.specs.Tables.{Tables}
@@ -18,9 +21,9 @@ use Rattle.rules.specs.Outcomes.{Outcome, Passed}
 use Rattle.rules.specs.Shape.{wordsNeeded}
 use Rattle.rules.specs.promises.Pages.{FreeOrdinary}
 use Rattle.rules.specs.promises.Rounded.{Divides, RoundedUp}
-use Rattle.rules.specs.promises.Declares.{AtBase, Anywhere, Judged, Highest, DeclareDoes, AcceptedDeclare}
+use Rattle.rules.specs.promises.Declares.{AtBase, Anywhere, Judged, Highest, DeclareKeepsToLimit, DeclareDoes, AcceptedDeclare}
 use Rattle.rules.proofs.Checks.{checked-cases, checked-passed}
-use Rattle.rules.proofs.Rounding.{Amounts, amounts, in-pages}
+use Rattle.rules.proofs.Rounding.{Amounts, amounts, in-pages, limit-given}
 use Rattle.rules.proofs.Placed.{Placed, placed, Declarable, declarable}
 use Rattle.rules.proofs.promises.HighestPlace.{declare-takes-highest}
 use Rattle.rules.proofs.promises.Places.{judged-amounts, at-base}
@@ -36,13 +39,21 @@ module _ (m : Record) (r : Request) (t : Tables) (c : Passed (declareChecks m r 
   a = areaFor m r t
 
   judged : Judged m r t
-  judged = record { shape = c .0; room = c .1 .0; amounts = c .1 .1 .0; per-bit = c .1 .1 .1 .0; bitmap = c .1 .1 .1 .1 .0 }
+  judged =
+      record {
+        shape = c .0;
+        room = c .1 .0;
+        amounts = c .1 .1 .0;
+        per-bit = c .1 .1 .1 .0;
+        limit = c .1 .1 .1 .1 .0;
+        bitmap = c .1 .1 .1 .1 .1 .0;
+      }
 
   rounded : Amounts m r
   rounded = judged-amounts m r t judged
 
   stands : Placed m r t
-  stands = placed m r t (judged .amounts) (c .1 .1 .1 .1 .1 .0) (c .1 .1 .1 .1 .1 .1 .0) (c .1 .1 .1 .1 .1 .1 .1 .0)
+  stands = placed m r t (judged .amounts) (c .1 .1 .1 .1 .1 .1 .0) (c .1 .1 .1 .1 .1 .1 .1 .0) (c .1 .1 .1 .1 .1 .1 .1 .1 .0)
 
   pub right : Declarable m r t
   right = declarable m r t (judged .room) (judged .amounts) (judged .per-bit) (judged .bitmap) stands
@@ -73,6 +84,21 @@ module _ (m : Record) (r : Request) (t : Tables) (c : Passed (declareChecks m r 
   highest w =
       let h = declare-takes-highest m r t judged w .0 .accepted (a .base .0) (a .count) .0 (ap (λ (o : Outcome). o .answer) (checked-passed m t _ _ c)) in
       (h .0, h .1, first-byte (h .0) (h .2))
+
+  reach : r .limit ≢ 0 → Anywhere m r → (a .base .0 + a .count) * 4096 ≤ r .limit
+  reach given w =
+      let h = highest w in
+      omega (arith, h .2, h .1 .allowed .below-limit, rounded .size-pages, limit-given m r given (judged .limit))
+
+pub declare-keeps-to-limit : DeclareKeepsToLimit
+unfolding declare
+declare-keeps-to-limit m r t f n given w =
+    checked-cases (λ o. o .answer ≡ done f n → (f + n) * 4096 ≤ r .limit) m t (declareChecks m r t) _ refl
+    (λ number some e. absurd (let z : number ≡ 0 = ap (λ (x : Answer). x .refusal) e in omega arith))
+    (λ c e.
+    let first : areaFor m r t .base .0 ≡ f = ap (λ (x : Answer). x .first) e in
+    let count : areaFor m r t .count ≡ n = ap (λ (x : Answer). x .second) e in
+    omega (arith, reach m r t c given w))
 
 pub accepted-declare : AcceptedDeclare
 unfolding declare

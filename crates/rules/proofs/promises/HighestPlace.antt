@@ -114,8 +114,9 @@ module _ (m : Record) (r : Request) (t : Tables) (rounded : Amounts m r) where
         (there (judged .room)
         (there (judged .amounts)
         (there (judged .per-bit)
+        (there (judged .limit)
         (there (judged .bitmap)
-        (there (not-fixed _) (there (not-fixed _) (here (and-both _ _ (ap not anywhere) (le-leb last found h)))))))))))
+        (there (not-fixed _) (there (not-fixed _) (here (and-both _ _ (ap not anywhere) (le-leb last found h))))))))))))
 
     answer-done : found < last → answer ≡ done (found * A / pageBytes) (sizeFor m r / pageBytes)
     unfolding declare highestFit
@@ -127,7 +128,10 @@ module _ (m : Record) (r : Request) (t : Tables) (rounded : Amounts m r) where
             judged .room,
             (
               judged .amounts,
-              (judged .per-bit, (judged .bitmap, (not-fixed _, (not-fixed _, (and-right-false (not (isFixed m r)) _ (lt-leb last found h), tt))))),
+              (
+                judged .per-bit,
+                (judged .limit, (judged .bitmap, (not-fixed _, (not-fixed _, (and-right-false (not (isFixed m r)) _ (lt-leb last found h), tt))))),
+              ),
             ),
           ),
         )) ∙

@@ -7,7 +7,7 @@ use lib.Dec.{eqb, ltb}
 use borrow.Author.Tests.{eq-eqb, ne-eqb, lt-ltb, le-ltb}
 use Rattle.search.proofs.Bools.{below-or-not, or-left-true, or-right-true, or-neither}
 use Rattle.frames.specs.Areas.{ceiling}
-use Rattle.rules.specs.Declare.{roundUp, roundDown, alignmentFor, baseFor, sizeFor, limitFor, endByte}
+use Rattle.rules.specs.Declare.{roundUp, roundDown, alignmentFor, baseFor, sizeFor, limitRounded, limitFor, endByte}
 use Rattle.rules.specs.promises.Rounded.{RoundedUp, RoundedDown, AmountsRound, LimitRounds}
 use Rattle.rules.proofs.Divisions.{up-low, up-high, down-low, down-high}
 use Rattle.rules.proofs.Rounding.{alignment-some}
@@ -33,7 +33,7 @@ amounts-round m r =
 pub limit-rounds : LimitRounds
 unfolding limitFor
 limit-rounds m r =
-    let R = roundDown (r .limit) (alignmentFor m r) in (
+    let R = limitRounded m r in (
       R,
       record {
         rounded = rounded-down (r .limit) (alignmentFor m r) (alignment-some m r);

@@ -1,7 +1,7 @@
 -- Everything that the calls promise, in one list.
 use Rattle.rules.specs.promises.Bitmaps.{AreaLayout, BitmapLayout}
 use Rattle.rules.specs.promises.Boots.{BootLooksAtLengths, AcceptedBoot}
-use Rattle.rules.specs.promises.Declares.{BaseZeroCancelsFixed, DeclareTakesHighest, AcceptedDeclare, DeclareKeepsShape}
+use Rattle.rules.specs.promises.Declares.{BaseZeroCancelsFixed, DeclareTakesHighest, DeclareKeepsToLimit, AcceptedDeclare, DeclareKeepsShape}
 use Rattle.rules.specs.promises.Devices.{AcceptedDeviceStore, AcceptedDeviceRead}
 use Rattle.rules.specs.promises.Grants.{GrantIsFirstFit}
 use Rattle.rules.specs.promises.Moves.{AcceptedGrant}
@@ -41,6 +41,7 @@ pub record AllPromises : Type 0 where
   pub limit : LimitRounds
   pub base-zero : BaseZeroCancelsFixed
   pub highest : DeclareTakesHighest
+  pub reach : DeclareKeepsToLimit
   pub declare : AcceptedDeclare
   pub shape-kept : DeclareKeepsShape
   pub boot-lengths : BootLooksAtLengths

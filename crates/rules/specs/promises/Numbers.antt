@@ -1,6 +1,6 @@
 -- Document 01, "Numbers the clerk sees": every call answers each number of its list exactly when the paper says, in plain orders and
 -- quantifiers and with the numbers and limits themselves.
-use Prim.Native.Nat.{ℕ, suc, _+_, _-_, _/_, _%_, _^_, _≤_, _<_}
+use Prim.Native.Nat.{ℕ, suc, _+_, _-_, _*_, _/_, _%_, _^_, _≤_, _<_}
 use mathlib.Core.Path.{_≡_}
 use mathlib.Core.Logic.{_⊎_, _↔_, _≢_}
 use mathlib.Core.List.{List, [], _∷_}
@@ -92,6 +92,10 @@ BadAmounts r =
     (2 ^ 48 < r .alignment) ⊎
     (r .size ≡ 0) ⊎ ((r .alignment ≡ 0) ⊎ ((k : ℕ) × (r .alignment ≡ 2 ^ k)) → ⊥)
 
+-- a limit was given, and it is less than A: rounded down to A it is 0
+abbrev pub SmallLimit : Record → Request → Type 0
+SmallLimit m r = (r .limit ≢ 0) × ((r .limit < r .alignment) ⊎ (r .limit < 4096 * 2 ^ m .memory .«block_order»))
+
 -- the words of the areas and of the new one, with a bit for each 2^k of its pages, are more than the bitmap has
 abbrev pub ShortBitmap : Record → Request → Tables → Type 0
 ShortBitmap m r t =
@@ -105,6 +109,7 @@ declareRefusal r m t =
     8 ≤ m .memory .declared answers 10 otherwise
     BadAmounts r answers 2 otherwise
     m .memory .«block_order» < r .«order_per_bit» answers 11 otherwise
+    SmallLimit m r answers 11 otherwise
     ShortBitmap m r t answers 14 otherwise
     (AtBase m r × RangeOutside m r) answers 13 otherwise
     (AtBase m r × RangeTaken m r t) answers 12 otherwise

@@ -31,7 +31,8 @@ pub record AmountsAre (m : Record) (r : Request) : Type 0 where
 abbrev pub AmountsRound : Type 0
 AmountsRound = (m : Record) (r : Request) → AmountsAre m r
 
--- the limit given rounds down to R: one that is now 0, or past the end of memory, becomes the end
+-- the limit given rounds down to R: one that is now 0, or past the end of memory, becomes the end. (Of those that round to 0 only one given as 0
+-- is not refused before.)
 pub record LimitIs (m : Record) (r : Request) (R : ℕ) : Type 0 where
   pub rounded : RoundedDown (r .limit) (alignmentFor m r) R
   pub becomes-end : (R ≡ 0) ⊎ ((m .memory .base .0 + m .memory .frames) * 4096 < R) → limitFor m r ≡ (m .memory .base .0 + m .memory .frames) * 4096
