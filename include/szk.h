@@ -103,7 +103,7 @@ extern "C" {
 #define SZK_NO_TARGET UINT64_C(8)          /* no target for its pages */
 #define SZK_RELEASE_DISAGREES UINT64_C(9)  /* release disagrees with the grant */
 #define SZK_AREAS_FULL UINT64_C(10)        /* eight areas already */
-#define SZK_ORDER_OR_LIMIT UINT64_C(11)    /* k above b, or a limit less than its alignment */
+#define SZK_ORDER_OR_LIMIT UINT64_C(11)    /* k above b, or a limit that cannot be kept */
 #define SZK_RANGE_NOT_FREE UINT64_C(12)    /* fixed range not free */
 #define SZK_NO_PLACE UINT64_C(13)          /* no place for the area */
 #define SZK_BITMAP_TOO_SHORT UINT64_C(14)  /* bitmap slice too short */
@@ -141,19 +141,21 @@ void szk_boot(uint64_t *record, size_t record_length, uint32_t *marks, size_t ma
 /*
  * Declares an area. The first four numbers are bytes; a bit of the area's bitmap stands for
  * 2^order_per_bit frames. With A = max(alignment, 4,096 x 2^b), base and size round up to A and
- * limit rounds down. Base 0 then cancels fixed. A limit given as 0, or past the end of memory, becomes
- * the end.
+ * limit rounds down. Base 0 then cancels fixed. A limit given as 0, or past the end of memory,
+ * becomes the end.
  *
- * With `fixed` not 0 the area begins at base, and limit isn't consulted. Otherwise it takes the
- * highest multiple of A at or above base whose range ends at or below limit, lies in memory, and
- * holds only free ordinary frames. The new bitmap words become 0. Answers first frame, count.
+ * With `fixed` not 0 the area begins at base. Otherwise it takes the highest multiple of A at or
+ * above base whose range ends at or below limit, lies in memory, and holds only free ordinary
+ * frames. Either way it ends at or below a limit that was given. The new bitmap words become 0.
+ * Answers first frame, count.
  *
  * Refused:
  *   SZK_WRONG_SHAPE;
  *   SZK_AREAS_FULL;
  *   SZK_OUT_OF_RANGE if an amount passes 2^48, size is 0, or alignment is neither 0 nor a power of
  *     two;
- *   SZK_ORDER_OR_LIMIT if order_per_bit is above b, or limit is not 0 and less than A;
+ *   SZK_ORDER_OR_LIMIT if order_per_bit is above b; or limit was not given as 0 and is less than A,
+ *     or a fixed range ends above it;
  *   SZK_BITMAP_TOO_SHORT;
  *   fixed: SZK_NO_PLACE if outside memory, SZK_RANGE_NOT_FREE if some frame is not free or is in an
  *     area; otherwise: SZK_NO_PLACE if there is no such multiple.

@@ -42,6 +42,7 @@ struct Search {
     size: u64,
     limit: u64,
     step: u64,
+    is_fixed: bool,
 }
 
 fn round_up(amount: u64, step: u64) -> u64 {
@@ -76,6 +77,20 @@ impl Machine {
         is_free: &dyn Fn(u64) -> bool,
         request: &Request,
     ) -> Result<Area, u64> {
+        let search = self.search_for(request)?;
+        let mut area = Area { base: 0, count: search.size / PAGE, order: request.order };
+        if self.bitmap_words() + area.bitmap_words() > bitmap_len {
+            return Err(refusal::BITMAP);
+        }
+        area.base = match search.is_fixed {
+            true => self.fixed_first(&search, is_free)?,
+            false => self.highest_first(&search, is_free)?,
+        };
+        Ok(area)
+    }
+
+    /// The checks of the request itself, up to the bitmap's.
+    fn search_for(&self, request: &Request) -> Result<Search, u64> {
         if self.declared >= Machine::MAX_AREAS {
             return Err(refusal::EIGHT_AREAS);
         }
@@ -86,16 +101,11 @@ impl Machine {
             return Err(refusal::ORDER_OR_LIMIT);
         }
         let search = self.rounded(request);
-        let mut area = Area { base: 0, count: search.size / PAGE, order: request.order };
-        if self.bitmap_words() + area.bitmap_words() > bitmap_len {
-            return Err(refusal::BITMAP);
+        let is_above = search.base + search.size > search.limit;
+        if search.is_fixed && request.limit != 0 && is_above {
+            return Err(refusal::ORDER_OR_LIMIT);
         }
-        let is_fixed = request.fixed && search.base != 0;
-        area.base = match is_fixed {
-            true => self.fixed_first(&search, is_free)?,
-            false => self.highest_first(&search, is_free)?,
-        };
-        Ok(area)
+        Ok(search)
     }
 
     fn end_byte(&self) -> u64 {
@@ -117,11 +127,13 @@ impl Machine {
     fn rounded(&self, request: &Request) -> Search {
         let step = self.step(request);
         let limit = request.limit / step * step;
+        let base = round_up(request.base, step);
         Search {
-            base: round_up(request.base, step),
+            base,
             size: round_up(request.size, step),
             limit: if request.limit == 0 { self.end_byte() } else { limit.min(self.end_byte()) },
             step,
+            is_fixed: request.fixed && base != 0,
         }
     }
 

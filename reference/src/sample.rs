@@ -492,12 +492,35 @@ fn some_small_limit(rng: &mut Rng, state: &State, request: &Request) -> u64 {
     }
 }
 
+/// A limit around the end of the range that a request names, or around the
+/// end of memory.
+fn some_limit_near_end(rng: &mut Rng, state: &State, request: &Request) -> u64 {
+    let top = Machine::MAX_AMOUNT;
+    let step = request.alignment.clamp(block_bytes(state), top);
+    let rounded = |amount: u64| amount.min(top).div_ceil(step) * step;
+    let range = rounded(request.base) + rounded(request.size);
+    let memory = ((state.machine.base % (1 << 40)) + state.marks.len() as u64) * PAGE;
+    let end = rng.pick(&[range, range, range, memory]);
+    match rng.below(9) {
+        0..=2 => end,
+        3..=4 => end.saturating_sub(step),
+        5 => end + step,
+        6 => end.saturating_sub(1),
+        7 => end + 1,
+        _ => request.base.wrapping_add(request.size),
+    }
+}
+
 /// A limit for a request whose other numbers are chosen.
 fn some_limit(rng: &mut Rng, state: &State, request: &Request) -> u64 {
+    if request.fixed && rng.percent(40) {
+        return some_limit_near_end(rng, state, request);
+    }
     match rng.below(100) {
         0..=54 => 0,
-        55..=79 => some_byte_place(rng, state),
-        80..=93 => some_small_limit(rng, state, request),
+        55..=74 => some_byte_place(rng, state),
+        75..=88 => some_small_limit(rng, state, request),
+        89..=93 => some_limit_near_end(rng, state, request),
         _ => Machine::MAX_AMOUNT + rng.below(2),
     }
 }
@@ -518,7 +541,8 @@ fn some_request(rng: &mut Rng, state: &State) -> Request {
     let request = Request {
         base: match rng.below(100) {
             0..=39 => 0,
-            40..=95 => some_byte_place(rng, state),
+            40..=91 => some_byte_place(rng, state),
+            92..=95 => rng.within(1, state.machine.base.clamp(1, Machine::MAX_END)) * PAGE,
             _ => rng.extreme(),
         },
         size: match rng.below(100) {

@@ -393,8 +393,8 @@ fn declare_at_a_fixed_base() {
     assert_eq!(declare(&state, fixed(38, 2)), (0, 38, 2));
     assert_eq!(declare(&state, fixed(38, 4)), (13, 0, 0));
     assert_eq!(declare(&state, fixed(8, 10)), (12, 0, 0));
-    // Base is rounded up to the block, and a limit below the range is not consulted.
-    assert_eq!(declare(&state, Request { limit: 2 * PAGE, ..fixed(9, 1) }), (0, 10, 2));
+    // Base is rounded up to the block.
+    assert_eq!(declare(&state, fixed(9, 1)), (0, 10, 2));
     // Base 0 cancels fixed.
     assert_eq!(declare(&state, fixed(0, 1)), (0, 38, 2));
     state.marks[0] = mark_of(3, 0);
@@ -404,6 +404,89 @@ fn declare_at_a_fixed_base() {
     ask(&mut state, Call::Declare(fixed(10, 2)));
     assert_eq!(state.bitmap[2], 0);
     assert_eq!(state.marks[0], 6);
+}
+
+/// What a fixed declare answers; its limit is in pages too.
+fn fixed_below(state: &State, base: u64, size: u64, limit: u64) -> (u64, u64, u64) {
+    declare(state, Request { fixed: true, ..request(base * PAGE, size * PAGE, limit * PAGE, 0) })
+}
+
+/// More pages than any memory has.
+const FAR: u64 = 1 << 36;
+
+#[test]
+fn a_fixed_range_above_its_limit_is_refused() {
+    let state = two_areas();
+    assert_eq!(fixed_below(&state, 8, 2, 0), (0, 8, 2));
+    assert_eq!(fixed_below(&state, 8, 2, 8), (11, 0, 0));
+    assert_eq!(fixed_below(&state, 8, 2, 9), (11, 0, 0));
+    assert_eq!(fixed_below(&state, 8, 2, 10), (0, 8, 2));
+    assert_eq!(fixed_below(&state, 8, 2, 12), (0, 8, 2));
+    assert_eq!(fixed_below(&state, 8, 2, FAR), (0, 8, 2));
+    // The limit as given may be any byte.
+    let says = |limit| declare(&state, Request { fixed: true, ..request(8 * PAGE, 1, limit, 0) }).0;
+    assert_eq!((says(10 * PAGE - 1), says(10 * PAGE), says(10 * PAGE + 1)), (11, 0, 0));
+    // A is the alignment, eight pages: the range is frames 24 to 31.
+    let says = |limit| declare(&state, Request { fixed: true, ..request(24 * PAGE, 1, limit, 8 * PAGE) });
+    assert_eq!(says(24 * PAGE), (11, 0, 0));
+    assert_eq!(says(32 * PAGE - 1), (11, 0, 0));
+    assert_eq!(says(32 * PAGE), (0, 24, 8));
+}
+
+#[test]
+fn a_fixed_range_is_rounded_before_the_limit_is_asked() {
+    let state = two_areas();
+    // Base and size round up, to frames 10 and 11.
+    assert_eq!(fixed_below(&state, 9, 1, 10), (11, 0, 0));
+    assert_eq!(fixed_below(&state, 9, 1, 11), (11, 0, 0));
+    assert_eq!(fixed_below(&state, 9, 1, 12), (0, 10, 2));
+    // The size alone rounds up, and the limit rounds down.
+    assert_eq!(fixed_below(&state, 8, 3, 11), (11, 0, 0));
+    assert_eq!(fixed_below(&state, 8, 3, 12), (0, 8, 4));
+}
+
+#[test]
+fn a_fixed_range_outside_memory_with_a_limit() {
+    let mut state = two_areas();
+    assert_eq!(fixed_below(&state, 38, 2, FAR), (0, 38, 2));
+    assert_eq!(fixed_below(&state, 38, 4, 0), (13, 0, 0));
+    assert_eq!(fixed_below(&state, 38, 4, 40), (11, 0, 0));
+    assert_eq!(fixed_below(&state, 38, 4, 42), (11, 0, 0));
+    assert_eq!(fixed_below(&state, 40, 2, FAR), (11, 0, 0));
+    assert_eq!(fixed_below(&state, FAR, 2, 0), (13, 0, 0));
+    assert_eq!(fixed_below(&state, FAR, 2, FAR), (11, 0, 0));
+    assert_eq!(fixed_below(&state, 4, 2, 0), (13, 0, 0));
+    assert_eq!(fixed_below(&state, 4, 2, 4), (11, 0, 0));
+    assert_eq!(fixed_below(&state, 4, 2, 6), (13, 0, 0));
+    assert_eq!(fixed_below(&state, 4, 2, FAR), (13, 0, 0));
+    // Memory ends within a block, at frame 39, and the limit is cut to there.
+    state.machine.frames = 31;
+    state.marks.truncate(31);
+    state.words.truncate(31);
+    assert_eq!(fixed_below(&state, 36, 2, FAR), (0, 36, 2));
+    assert_eq!(fixed_below(&state, 38, 2, 40), (11, 0, 0));
+    assert_eq!(fixed_below(&state, 38, 2, 0), (13, 0, 0));
+}
+
+#[test]
+fn base_0_is_placed_below_the_limit() {
+    let state = two_areas();
+    assert_eq!(fixed_below(&state, 0, 2, 12), (0, 10, 2));
+    assert_eq!(fixed_below(&state, 0, 2, FAR), (0, 38, 2));
+    assert_eq!(fixed_below(&state, 0, 4, 2), (13, 0, 0));
+}
+
+#[test]
+fn the_limit_of_a_fixed_range_is_asked_before_the_bitmap() {
+    let mut state = two_areas();
+    assert_eq!(fixed_below(&state, 16, 2, 16).0, 11);
+    assert_eq!(fixed_below(&state, 16, 2, 18).0, 12);
+    state.bitmap.truncate(2);
+    assert_eq!(fixed_below(&state, 8, 2, 8).0, 11);
+    assert_eq!(fixed_below(&state, 8, 2, 10).0, 14);
+    assert_eq!(fixed_below(&state, 38, 4, 42).0, 11);
+    assert_eq!(fixed_below(&state, 38, 4, 0).0, 14);
+    assert_eq!(fixed_below(&state, 8, 0, 8).0, 2);
 }
 
 #[test]

@@ -112,17 +112,49 @@ fn limits_on_both_sides_of_the_step_occur() {
     assert!(seen.len() == 12 && seen.values().all(|&times| times >= 50), "{seen:?}");
 }
 
+/// Where a range ends, seen from its limit as given.
+fn side_of_limit(end: u64, step: u64, limit: u64) -> &'static str {
+    match limit {
+        0 => "no limit",
+        _ if limit == end => "at the limit",
+        _ if limit + step == end => "one step above",
+        _ if limit == end + step => "one step below",
+        _ if limit < end => "above",
+        _ => "below",
+    }
+}
+
+/// For a range that lies in memory, ends past it or starts below it: its end on every side of the limit.
 #[test]
-fn an_area_that_is_not_fixed_ends_at_or_below_its_limit() {
-    let mut accepted = 0;
+fn fixed_ranges_on_both_sides_of_the_limit_occur() {
+    let mut seen: BTreeMap<(&str, &str), u64> = BTreeMap::new();
+    judged_declares(12, 800_000, &mut |before, request, step, answer| {
+        let small = request.limit != 0 && request.limit < step;
+        if !request.fixed || request.base == 0 || request.order > before.machine.order || small {
+            return;
+        }
+        let start = request.base.div_ceil(step) * step;
+        let end = start + request.size.div_ceil(step) * step;
+        let memory = before.machine.end() * PAGE;
+        let is_refused = request.limit != 0 && (end > request.limit || end > memory);
+        assert_eq!(answer.refusal == 11, is_refused, "{request:?}");
+        let is_below = start < before.machine.base * PAGE;
+        let place = if end > memory { "past memory" } else if is_below { "below memory" } else { "in memory" };
+        *seen.entry((place, side_of_limit(end, step, request.limit))).or_default() += 1;
+    });
+    assert!(seen.len() == 18 && seen.values().all(|&times| times >= 50), "{seen:?}");
+}
+
+#[test]
+fn an_area_ends_at_or_below_its_limit() {
+    let mut accepted = [0, 0];
     judged_declares(11, 400_000, &mut |_, request, _, answer| {
-        let is_fixed = request.fixed && request.base != 0;
-        if answer.refusal == 0 && request.limit != 0 && !is_fixed {
-            accepted += 1;
+        if answer.refusal == 0 && request.limit != 0 {
+            accepted[usize::from(request.fixed && request.base != 0)] += 1;
             assert!((answer.first + answer.second) * PAGE <= request.limit, "{request:?}");
         }
     });
-    assert!(accepted > 200, "{accepted}");
+    assert!(accepted.iter().all(|&times| times > 200), "{accepted:?}");
 }
 
 #[test]

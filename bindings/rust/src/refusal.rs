@@ -22,7 +22,8 @@ pub const NO_TARGET: u64 = 8;
 pub const RELEASE_DISAGREES: u64 = 9;
 /// The record holds as many areas as it can.
 pub const AREAS_FULL: u64 = 10;
-/// The area's pages per bit are more than a block, or a limit was given that rounds down to 0.
+/// The area's pages per bit are more than a block; or a limit was given that rounds down to 0, or that a fixed range ends above, the
+/// limit being cut to memory.
 pub const ORDER_OR_LIMIT: u64 = 11;
 /// A fixed range has a frame that is not free, or is in an area.
 pub const RANGE_NOT_FREE: u64 = 12;

@@ -4,12 +4,13 @@
 --     up-low, up-high           a number rounded up is at or above it, by less than the divisor
 --     down-low, down-high, down-below    a number rounded down is at or below it, by less than the divisor
 --     rounds-to-none            just what is less than the divisor is rounded down to 0
+--     down-keeps                a multiple at or below a number is at or below it rounded down
 use Prim.Native.Nat.{ℕ, suc, _+_, _-_, _*_, _/_, _≤_, _<_}
 use native.Mathlib.Omega.{arith}
 use mathlib.Core.Path.{_≡_, sym, ap, _∙_}
 use lib.Dec.{ltb, eqb}
 use borrow.Author.Tests.{eq-eqb, ne-eqb, lt-ltb, le-ltb}
-use native.Mathlib.Nat.{one-mul, zero-mul, le-div-iff-mul-le, div-lt-iff-lt-mul, div-mul-le-self, lt-div-mul-add}
+use native.Mathlib.Nat.{one-mul, zero-mul, mul-le-mul-right, le-div-iff-mul-le, div-lt-iff-lt-mul, div-mul-le-self, lt-div-mul-add}
 use Rattle.search.proofs.Bools.{below-or-not}
 use Rattle.frames.specs.Areas.{ceiling}
 use Rattle.rules.specs.Declare.{roundUp, roundDown}
@@ -51,6 +52,9 @@ module _ (x d : ℕ) (h : 0 < d) where
   rounds-to-none =
       below-or-not x d (λ l. eq-eqb (roundDown x d) 0 (down-small l) ∙ sym (lt-ltb x d l))
       (λ l. ne-eqb (roundDown x d) 0 (λ z. absurd (omega (arith, down-high))) ∙ sym (le-ltb x d l))
+
+pub down-keeps : (x d c : ℕ) → 0 < d → c * d ≤ x → c * d ≤ roundDown x d
+down-keeps x d c hd h = mul-le-mul-right d (le-div-iff-mul-le hd .1 h)
 
 -- a number rounded down is below what the number is below
 pub down-below : (x d n : ℕ) → x < n → roundDown x d < n

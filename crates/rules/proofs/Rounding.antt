@@ -2,6 +2,7 @@
 --     Asked, asked                what the tests of a request say
 --     Blocks, alignment-blocks    an alignment for a declaration is a number of blocks, and so is what is rounded to it
 --     limit-high, limit-given     the limit is in memory, and not above what was given unless that vanishes
+--     limit-keeps                 what ends at or below both, at a multiple of the alignment, ends at or below the limit
 --     Amounts, amounts            how large the rounded amounts can be
 use Prim.Native.Nat.{ℕ, suc, _+_, _-_, _*_, _/_, _%_, _^_, _≤_, _<_}
 use native.Mathlib.Omega.{arith}
@@ -22,7 +23,7 @@ use Rattle.rules.specs.declared.Record.{Record}
 use Rattle.rules.specs.Declare.{badRequest, alignmentFor, baseFor, sizeFor, limitRounded, limitVanishes, limitFor, endByte}
 use Rattle.rules.specs.Limits.{mostBlockOrder, pageBytes}
 use Rattle.rules.specs.Shape.{memoryRight}
-use Rattle.rules.proofs.Divisions.{up-low, up-high, down-low}
+use Rattle.rules.proofs.Divisions.{up-low, up-high, down-low, down-keeps}
 use Rattle.rules.proofs.Shapes.{MemoryFacts, memory-known}
 
 pub record Asked (r : Request) : Type 0 where
@@ -142,6 +143,12 @@ limit-given m r given stays =
     let low : limit ≤ r .limit = down-low (r .limit) (alignmentFor m r) (alignment-some m r) in
     let some : eqb limit 0 ≡ false = sym (ap (λ (b : Bool). not b && eqb limit 0) (ne-eqb (r .limit) 0 given)) ∙ stays in
     by-cases (ltb (endByte m) limit) (λ e. rw (some, e) (omega (arith, ltb-true (endByte m) limit e))) (λ e. rw (some, e) low)
+
+pub limit-keeps : (m : Record) (r : Request) (c : ℕ) → c * alignmentFor m r ≤ r .limit → c * alignmentFor m r ≤ endByte m → c * alignmentFor m r ≤ limitFor m r
+unfolding limitFor
+limit-keeps m r c given inside =
+    let limit = limitRounded m r in
+    by-cases (eqb limit 0 || ltb (endByte m) limit) (λ e. rw e inside) (λ e. rw e (down-keeps (r .limit) (alignmentFor m r) c (alignment-some m r) given))
 
 pub record Amounts (m : Record) (r : Request) : Type 0 where
   pub blocks : Blocks (alignmentFor m r) (m .memory .«block_order»)

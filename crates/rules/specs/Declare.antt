@@ -67,6 +67,14 @@ limitVanishes m r = not (eqb (r .limit) 0) && eqb (limitRounded m r) 0
 unfoldable pub limitFor : Record → Request → ℕ
 limitFor m r = if eqb (limitRounded m r) 0 || ltb (endByte m) (limitRounded m r) then endByte m else limitRounded m r
 
+-- where a fixed range ends
+abbrev pub endFor : Record → Request → ℕ
+endFor m r = baseFor m r + sizeFor m r
+
+-- document 02, request (viii): a fixed range ends above the limit as it now stands, unless that was given as 0
+abbrev pub aboveLimit : Record → Request → Bool
+aboveLimit m r = isFixed m r && not (eqb (r .limit) 0) && ltb (limitFor m r) (endFor m r)
+
 -- the area that begins at a byte
 abbrev pub areaFrom : Record → Request → ℕ → Area
 areaFrom m r at = record { base = frame (at / pageBytes); count = sizeFor m r / pageBytes; «order_per_bit» = r .«order_per_bit» }
@@ -77,7 +85,7 @@ isVacant m t a = every (λ q. freeOrdinary m t (place q)) (placeOf m (a .base) .
 
 -- a fixed range is outside memory
 abbrev pub isOutside : Record → Request → Bool
-isOutside m r = ltb (baseFor m r) (startByte m) || ltb (endByte m) (baseFor m r + sizeFor m r)
+isOutside m r = ltb (baseFor m r) (startByte m) || ltb (endByte m) (endFor m r)
 
 -- the multiples of A at or above base and in memory, up to the limit: the first, and how many
 abbrev pub firstMultiple : Record → Request → ℕ
@@ -123,6 +131,7 @@ declareChecks m r t =
     badRequest r ⇒ 2 ∷
     ltb (m .memory .«block_order») (r .«order_per_bit») ⇒ 11 ∷
     limitVanishes m r ⇒ 11 ∷
+    aboveLimit m r ⇒ 11 ∷
     ltb (length (t .bitmap)) (wordsNeeded m + wordCount (areaFor m r t)) ⇒ 14 ∷
     (isFixed m r && isOutside m r) ⇒ 13 ∷
     (isFixed m r && not (isVacant m t (areaFor m r t))) ⇒ 12 ∷

@@ -34,7 +34,7 @@ use Rattle.rules.specs.Record.{placeOf, isOrdinary}
 use Rattle.rules.specs.Shape.{memoryRight, wordsNeeded}
 use Rattle.rules.specs.Outcomes.{Check}
 use Rattle.rules.specs.PageCalls.{freeOrdinary}
-use Rattle.rules.specs.Declare.{badRequest, roundUp, roundDown, alignmentFor, baseFor, sizeFor, limitVanishes, limitFor, isFixed, startByte, endByte, areaFrom, areaFor, isVacant, isOutside, firstMultiple, multiples, fitsAt, highestFit}
+use Rattle.rules.specs.Declare.{badRequest, roundUp, roundDown, alignmentFor, baseFor, sizeFor, limitVanishes, limitFor, aboveLimit, isFixed, startByte, endByte, areaFrom, areaFor, isVacant, isOutside, firstMultiple, multiples, fitsAt, highestFit}
 use Rattle.rules.proofs.Divisions.{le-ceiling}
 use Rattle.rules.proofs.Rounding.{amounts, in-pages, alignment-some, limit-high}
 use Rattle.rules.proofs.Shapes.{memory-known}
@@ -110,7 +110,7 @@ module _ (m : Record) (r : Request) (t u : Tables) (same : (q : ℕ) → markAt 
         none = λ e k a b. fits-alike k ∙ g .none e k a b;
       })
 
-  place-alike : planAfter 6 m r t ≡ planAfter 6 m r u
+  place-alike : planAfter 7 m r t ≡ planAfter 7 m r u
   place-alike = rw (highest-alike, vacant-alike (areaFor m r u))
 
   pub plan-alike : length (t .bitmap) ≡ length (u .bitmap) → planAfter 1 m r t ≡ planAfter 1 m r u
@@ -154,6 +154,21 @@ module _ (m : Record) (r : Request) (t : Tables) where
     pub plan-limited : {p : Plan} → small ≡ false → p ≡ planAfter 5 m r t → p ≡ planAfter 4 m r t
     plan-limited h k = k ∙ sym (planned-pass _ _ _ (sym vanishes ∙ h))
 
+  -- the end of a fixed range, beside the limit
+  module _
+      {x : Rounded} (e : x ≡ roundedFor m r) {fixed above : Bool} (f : fixed ≡ (r .fixed && not (eqb (x .base) 0)))
+      (is : above ≡ (fixed && not (eqb (r .limit) 0) && ltb (x .limit) (x .base + x .size))) where
+    above-is : above ≡ aboveLimit m r
+    above-is =
+        is ∙ ap (λ (b : Bool). b && not (eqb (r .limit) 0) && ltb (x .limit) (x .base + x .size)) f ∙
+        ap (λ (y : Rounded). r .fixed && not (eqb (y .base) 0) && not (eqb (r .limit) 0) && ltb (y .limit) (y .base + y .size)) e
+
+    pub plan-above : above ≡ true → Not 11 ≡ planAfter 5 m r t
+    plan-above h = sym (planned-stop _ _ _ (sym above-is ∙ h))
+
+    pub plan-within : {p : Plan} → above ≡ false → p ≡ planAfter 6 m r t → p ≡ planAfter 5 m r t
+    plan-within h k = k ∙ sym (planned-pass _ _ _ (sym above-is ∙ h))
+
   -- the area's size says how many words it takes
   module _
       {x : Rounded} (e : x ≡ roundedFor m r) {short : Bool}
@@ -166,11 +181,11 @@ module _ (m : Record) (r : Request) (t : Tables) where
           (λ (y : Rounded). ltb (length (t .bitmap)) (wordsNeeded m + wordCount (record { base = frame 0; count = y .size / pageBytes; «order_per_bit» = r .«order_per_bit» })))
           e
 
-      pub plan-short : short ≡ true → Not 14 ≡ planAfter 5 m r t
+      pub plan-short : short ≡ true → Not 14 ≡ planAfter 6 m r t
       plan-short h = sym (planned-stop _ _ _ (sym lacks ∙ h))
 
       -- where the area goes has nothing to do with the bitmap
-      pub plan-roomy : {p : Plan} → short ≡ false → p ≡ planAfter 6 m r (planTables (t .marks) []) → p ≡ planAfter 5 m r t
+      pub plan-roomy : {p : Plan} → short ≡ false → p ≡ planAfter 7 m r (planTables (t .marks) []) → p ≡ planAfter 6 m r t
       plan-roomy h k = k ∙ place-alike m r (planTables (t .marks) []) t (λ q. refl) ∙ sym (planned-pass _ _ _ (sym lacks ∙ h))
 
 -- ---- a scan of `count` frames from `first` on has found the lowest that is not free or in an area
@@ -228,7 +243,7 @@ module _ (m : Record) (r : Request) (t : Tables) {x : Rounded} (e : x ≡ rounde
       outside-is : out ≡ isOutside m r
       outside-is = tested ∙ ap (λ (y : Rounded). ltb (y .base) (startByte m) || ltb (endByte m) (y .base + y .size)) e
 
-      pub fixed-outside : out ≡ true → Not 13 ≡ planAfter 6 m r t
+      pub fixed-outside : out ≡ true → Not 13 ≡ planAfter 7 m r t
       fixed-outside h = sym (planned-stop _ _ _ (and-both (isFixed m r) (isOutside m r) f (sym outside-is ∙ h)))
 
       module _ (h : out ≡ false) where
@@ -256,14 +271,14 @@ module _ (m : Record) (r : Request) (t : Tables) {x : Rounded} (e : x ≡ rounde
                 ap (λ (y : ℕ). record { base = frame (baseFor m r / pageBytes); count = y / pageBytes; «order_per_bit» = r .«order_per_bit» }) (size-is m r e) ∙
                 ap (λ (b : Bool). areaFrom m r (if b then baseFor m r else highestFit m r t * alignmentFor m r)) (sym f)
 
-            pub fixed-full : taken < first + x .size / pageBytes → Not 12 ≡ planAfter 6 m r t
+            pub fixed-full : taken < first + x .size / pageBytes → Not 12 ≡ planAfter 7 m r t
             fixed-full l =
                 let v = sym (ap (isVacant m t) fixed-is) ∙ scanned-taken m t first (x .size / pageBytes) (r .«order_per_bit») is fixed-low l in
                 sym
                 (planned-pass _ _ _ inside ∙
                 planned-stop _ _ _ (and-both (isFixed m r) (not (isVacant m t (areaFor m r t))) f (ap not v)))
 
-            pub fixed-there : first + x .size / pageBytes ≤ taken → Made fixedArea ≡ planAfter 6 m r t
+            pub fixed-there : first + x .size / pageBytes ≤ taken → Made fixedArea ≡ planAfter 7 m r t
             fixed-there l =
                 let v = sym (ap (isVacant m t) fixed-is) ∙ scanned-free m t first (x .size / pageBytes) (r .«order_per_bit») is fixed-low l in
                 ap Made fixed-is ∙
@@ -403,7 +418,7 @@ module _ (m : Record) (r : Request) (t : Tables) {x : Rounded} (e : x ≡ rounde
               none = λ same. absurd (omega (arith, below-last));
             })
 
-        pub tried-made : isFixed m r ≡ false → first + count ≤ taken → Made there ≡ planAfter 6 m r t
+        pub tried-made : isFixed m r ≡ false → first + count ≤ taken → Made there ≡ planAfter 7 m r t
         tried-made f h =
             let found = found-there h in
             ap Made (there-is ∙ ap (λ (y : ℕ). areaFrom m r (y * alignmentFor m r)) (sym found)) ∙
@@ -416,7 +431,7 @@ module _ (m : Record) (r : Request) (t : Tables) {x : Rounded} (e : x ≡ rounde
             (lt-leb (firstMultiple m r + multiples m r) (highestFit m r t) (omega (arith, found, below-last)))) ∙
             planned-end (areaFor m r t))
 
-    pub tried-all : {high lowest : ℕ} → isFixed m r ≡ false → lowestEnd lowest → Searching m r t high → high < lowest → Not 13 ≡ planAfter 6 m r t
+    pub tried-all : {high lowest : ℕ} → isFixed m r ≡ false → lowestEnd lowest → Searching m r t high → high < lowest → Not 13 ≡ planAfter 7 m r t
     unfolding highestFit
     tried-all {high} {lowest} f l s h =
         let p = fitsAt m r t in

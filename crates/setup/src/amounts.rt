@@ -117,6 +117,19 @@ pub(crate) fn is_fixed(fixed: bool, base: u64) -> bool
     false
 }
 
+// A limit was given, and a range that must begin at its base ends above what the limit has become.
+pub(crate) fn is_above_limit(limit_given: u64, limit: u64, fixed: bool, end: u64) -> bool
+    ensures { λ r. ⌜ r ≡ (fixed && not (eqb «limit_given» 0) && ltb limit end) ⌝ }
+{
+    if limit_given == 0 {
+        return false;
+    }
+    if fixed {
+        return limit < end;
+    }
+    false
+}
+
 // The end of the lowest place that a search tries: at or above the base, and in memory that begins at frame `first`.
 pub(crate) fn lowest_end(rounded: Rounded, first: Frame) -> u64
     requires { ⌜ AmountsFit rounded ⌝ }

@@ -107,7 +107,7 @@ fn first_taken(memory: Memory, areas: &[u64], marks: &[u32], first: Frame, count
     frame_at(base, taken)
 }
 
-// A range at the base is outside memory, whose bytes are from `start` up to `end`. The limit plays no part.
+// A range at the base is outside memory, whose bytes are from `start` up to `end`.
 fn is_outside(rounded: Rounded, start: u64, end: u64) -> bool
     requires { ⌜ AmountsFit rounded ⌝ }
     ensures { λ r. ⌜ r ≡ (ltb (rounded .base) start || ltb end (rounded .base + rounded .size)) ⌝ }
@@ -130,7 +130,7 @@ pub(crate) fn plan_fixed(
     requires { ⌜ badRequest request ≡ false ⌝ }
     requires { ⌜ Rounds memory request rounded ⌝ }
     requires { ⌜ isFixed (recordWith memory (now areas)) request ≡ true ⌝ }
-    ensures { λ r. ⌜ r ≡ planAfter 6 (given memory areas) request (planTables (now (marks .entry)) []) ⌝ }
+    ensures { λ r. ⌜ r ≡ planAfter 7 (given memory areas) request (planTables (now (marks .entry)) []) ⌝ }
 {
     let start = byte_of_frame(memory.base);
     let end = byte_of_frame(Frame(memory.base.0 + memory.frames));
@@ -163,7 +163,7 @@ pub(crate) fn plan_highest(
     requires { ⌜ badRequest request ≡ false ⌝ }
     requires { ⌜ Rounds memory request rounded ⌝ }
     requires { ⌜ isFixed (recordWith memory (now areas)) request ≡ false ⌝ }
-    ensures { λ r. ⌜ r ≡ planAfter 6 (given memory areas) request (planTables (now (marks .entry)) []) ⌝ }
+    ensures { λ r. ⌜ r ≡ planAfter 7 (given memory areas) request (planTables (now (marks .entry)) []) ⌝ }
 {
     let lowest = lowest_end(rounded, memory.base);
     let count = rounded.size / Record::PAGE_BYTES;

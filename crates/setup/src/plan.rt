@@ -10,6 +10,7 @@ ghost use Rattle.rules.specs.Shape.{memoryRight};
 ghost use Rattle.rules.specs.Does.{given};
 ghost use Rattle.rules.specs.Declare.{badRequest, withArea};
 ghost use Rattle.setup.specs.steps.Plan.{planTables, planAfter, plan};
+use crate::amounts::is_above_limit;
 use crate::amounts::is_bad_request;
 use crate::amounts::is_fixed;
 use crate::amounts::limit_vanishes;
@@ -38,7 +39,8 @@ fn lacks_room(areas: &[u64], declared: u64, bitmap: &[u64], area: Area) -> bool
     room - used < area.words()
 }
 
-// Whether the limit is one, whether the bitmap has room for the area, which its size alone says, and where the area goes.
+// Whether the limit can be kept, whether the bitmap has room for the area, which its size alone says, and where the area goes. What is asked is
+// worked out first, and judged in the rules' order.
 fn plan_rounded(
     memory: Memory,
     areas: &[u64],
@@ -51,16 +53,23 @@ fn plan_rounded(
     ensures { λ r. ⌜ r ≡ planAfter 4 (given memory areas) request (planTables (now (marks .entry)) (now (bitmap .entry))) ⌝ }
 {
     let rounded = round(memory, request);
-    let fixed = is_fixed(request.fixed, rounded.base);
-    if limit_vanishes(request.limit, rounded.alignment) {
-        return Plan::Not(refusal::ORDER_OR_LIMIT);
-    }
     let sized = Area {
         base: Frame(0),
         count: rounded.size / Record::PAGE_BYTES,
         order_per_bit: request.order_per_bit,
     };
-    if lacks_room(areas, memory.declared, bitmap, sized) {
+    let fixed = is_fixed(request.fixed, rounded.base);
+    let end = rounded.base + rounded.size;
+    let vanishes = limit_vanishes(request.limit, rounded.alignment);
+    let above = is_above_limit(request.limit, rounded.limit, fixed, end);
+    let short = lacks_room(areas, memory.declared, bitmap, sized);
+    if vanishes {
+        return Plan::Not(refusal::ORDER_OR_LIMIT);
+    }
+    if above {
+        return Plan::Not(refusal::ORDER_OR_LIMIT);
+    }
+    if short {
         return Plan::Not(refusal::BITMAP_TOO_SHORT);
     }
     if fixed {

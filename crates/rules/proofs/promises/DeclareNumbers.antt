@@ -1,8 +1,9 @@
 -- The conditions of declare's numbers. Assumes nothing.
 use Prim.Native.Nat.{ℕ, _+_, _*_, _^_, _≤_, _<_}
 use native.Mathlib.Omega.{arith}
+use native.Mathlib.Nat.{add-mul}
 use mathlib.Core.Path.{_≡_, refl, sym, ap, subst}
-use mathlib.Core.Logic.{inl, inr, ⊎-elim, _↔_}
+use mathlib.Core.Logic.{_⊎_, inl, inr, ⊎-elim, _↔_, _≢_}
 use mathlib.Core.Bool.{Bool, not, _&&_}
 use lib.Dec.{leb, ltb, eqb}
 use lib.ListN.{length}
@@ -10,18 +11,18 @@ use lib.Pow.{pow-mono}
 use borrow.Author.Tests.{leb-true, le-leb}
 use Rattle.search.specs.Choice.{if_then_else_}
 use Rattle.search.proofs.Bools.{below-or-not}
-use Rattle.frames.specs.Areas.{wordCount}
+use Rattle.frames.specs.Areas.{ceiling, wordCount}
 use Rattle.frames.specs.Tables.{Tables}
 use Rattle.regions.specs.Amounts.{isPowerOfTwo}
 use Rattle.rules.specs.declared.Request.{Request}
 use Rattle.rules.specs.declared.Record.{Record}
 use Rattle.rules.specs.Outcomes.{Outcome}
 use Rattle.rules.specs.Shape.{wordsNeeded}
-use Rattle.rules.specs.Declare.{badRequest, alignmentFor, baseFor, sizeFor, isFixed, limitRounded, limitVanishes, startByte, endByte, areaFrom, areaFor, isVacant, isOutside, firstMultiple, multiples, highestFit, startFor, declareChecks, declare}
-use Rattle.rules.specs.promises.Declares.{AtBase, RangeOutside, RangeTaken, NoPlace}
+use Rattle.rules.specs.Declare.{badRequest, alignmentFor, baseFor, sizeFor, isFixed, limitRounded, limitVanishes, limitFor, endFor, aboveLimit, startByte, endByte, areaFrom, areaFor, isVacant, isOutside, firstMultiple, multiples, highestFit, startFor, declareChecks, declare}
+use Rattle.rules.specs.promises.Declares.{AtBase, RangeAboveLimit, RangeOutside, RangeTaken, NoPlace}
 use Rattle.rules.specs.promises.Numbers.{BadAmounts, SmallLimit, ShortBitmap, declareRefusal}
 use Rattle.rules.proofs.Divisions.{rounds-to-none}
-use Rattle.rules.proofs.Rounding.{Amounts, amounts, alignment-some}
+use Rattle.rules.proofs.Rounding.{Amounts, amounts, alignment-some, limit-high, limit-given, limit-keeps}
 use Rattle.rules.proofs.Says.{Says, says-is, says-false, says-yes, says-ltb, says-leb, says-eqb, says-not, says-and, says-or, says-right, says-some}
 use Rattle.rules.proofs.ShapeFacts.{shape-memory}
 use Rattle.rules.proofs.promises.HighestPlace.{found-highest, none-allowed}
@@ -68,6 +69,31 @@ module _ (m : Record) (r : Request) (t : Tables) where
       says-is (λ w. (w .0, below-or-not (r .limit) (r .alignment) inl (λ h. inr (omega (arith, w .1)))))
       (λ w. (w .0, ⊎-elim (λ l. omega arith) (λ l. omega arith) (w .1)))
       (says-and (says-not (says-eqb (r .limit) 0)) (λ _. below-alignment))
+
+  -- ---- a fixed range and the limit
+  abbrev rangeEnd : ℕ
+  rangeEnd = endFor m r
+
+  -- it ends at a multiple of the alignment
+  end-multiple : rangeEnd ≡ (ceiling (r .base) (alignmentFor m r) + ceiling (r .size) (alignmentFor m r)) * alignmentFor m r
+  unfolding baseFor sizeFor
+  end-multiple = sym (add-mul (ceiling (r .base) (alignmentFor m r)) (ceiling (r .size) (alignmentFor m r)) (alignmentFor m r))
+
+  end-kept : rangeEnd ≤ r .limit → rangeEnd ≤ endByte m → rangeEnd ≤ limitFor m r
+  end-kept given inside = rw end-multiple (limit-keeps m r _ (rw end-multiple at given) (rw end-multiple at inside))
+
+  -- the limit is not small, if given
+  module _ (large : SmallLimit m r → ⊥) where
+    end-above : r .limit ≢ 0 → Says (ltb (limitFor m r) rangeEnd) ((r .limit < rangeEnd) ⊎ (endByte m < rangeEnd))
+    end-above given =
+        says-is (λ l. below-or-not (r .limit) rangeEnd inl (λ h. below-or-not (endByte m) rangeEnd inr (λ k. absurd (omega (arith, end-kept h k)))))
+        (⊎-elim (λ l. omega (arith, limit-given m r given (says-false small-limit large))) (λ l. omega (arith, limit-high m r)))
+        (says-ltb (limitFor m r) rangeEnd)
+
+    above-limit : Says (aboveLimit m r) (AtBase m r × RangeAboveLimit m r)
+    above-limit =
+        says-is (λ w. (w .0 .0, (w .0 .1, w .1))) (λ w. ((w .0, w .1 .0), w .1 .1))
+        (says-and (says-and (at-base m r) (λ _. says-not (says-eqb (r .limit) 0))) (λ w. end-above (w .1)))
 
   short-bitmap : Says (ltb (length (t .bitmap)) (wordsNeeded m + wordCount (areaFor m r t))) (ShortBitmap m r t)
   short-bitmap = says-ltb _ _
@@ -118,13 +144,15 @@ declare-numbers m r t done =
     (λ order.
     rung (small-limit m r t)
     (λ limit.
+    rung (above-limit m r t limit)
+    (λ _.
     rung (short-bitmap m r t)
     (λ words.
     let rounded = amounts m r (shape-memory m t (says-yes (shape-says m t) shape)) (says-false (bad-amounts r) good) in
     rung (range-outside m r t)
     (λ inside.
     rung (not-vacant m r t rounded inside)
-    (λ _. rung (says-and (anywhere m r) (λ _. highest-says m r t rounded)) (λ _. foot done)))))))))
+    (λ _. rung (says-and (anywhere m r) (λ _. highest-says m r t rounded)) (λ _. foot done))))))))))
 
 pub declare-exactly : (m : Record) (r : Request) (t : Tables) (n : ℕ) → (declare m r t .answer .refusal ≡ n) ↔ declareRefusal r m t n
 unfolding declare

@@ -115,8 +115,9 @@ module _ (m : Record) (r : Request) (t : Tables) (rounded : Amounts m r) where
         (there (judged .amounts)
         (there (judged .per-bit)
         (there (judged .limit)
+        (there (judged .within)
         (there (judged .bitmap)
-        (there (not-fixed _) (there (not-fixed _) (here (and-both _ _ (ap not anywhere) (le-leb last found h))))))))))))
+        (there (not-fixed _) (there (not-fixed _) (here (and-both _ _ (ap not anywhere) (le-leb last found h)))))))))))))
 
     answer-done : found < last → answer ≡ done (found * A / pageBytes) (sizeFor m r / pageBytes)
     unfolding declare highestFit
@@ -130,7 +131,10 @@ module _ (m : Record) (r : Request) (t : Tables) (rounded : Amounts m r) where
               judged .amounts,
               (
                 judged .per-bit,
-                (judged .limit, (judged .bitmap, (not-fixed _, (not-fixed _, (and-right-false (not (isFixed m r)) _ (lt-leb last found h), tt))))),
+                (
+                  judged .limit,
+                  (judged .within, (judged .bitmap, (not-fixed _, (not-fixed _, (and-right-false (not (isFixed m r)) _ (lt-leb last found h), tt))))),
+                ),
               ),
             ),
           ),

@@ -12,7 +12,7 @@ use Rattle.frames.specs.Tables.{Tables}
 use Rattle.rules.specs.declared.Request.{Request}
 use Rattle.rules.specs.declared.Record.{Record}
 use Rattle.rules.specs.Record.{areaAt}
-use Rattle.rules.specs.Declare.{badRequest, alignmentFor, baseFor, sizeFor, limitVanishes, limitFor, areaFor, declare}
+use Rattle.rules.specs.Declare.{badRequest, alignmentFor, baseFor, sizeFor, limitVanishes, limitFor, aboveLimit, areaFor, declare}
 use Rattle.rules.specs.Limits.{mostAreas, mostAreaNumbers}
 use Rattle.rules.specs.Outcomes.{Outcome}
 use Rattle.rules.specs.Shape.{shapeRight, shapeWrong, wordsNeeded}
@@ -42,7 +42,13 @@ pub record InRange (m : Record) (r : Request) (start p : ℕ) : Type 0 where
   pub low : start ≤ (m .memory .base .0 + p) * 4096
   pub high : (m .memory .base .0 + p) * 4096 < start + sizeFor m r
 
--- ---- A fixed request takes the range at its base, whatever the limit
+-- ---- A fixed request takes the range at its base, or none
+
+-- a limit was given, and the range ends above it, or above memory, to which the limit is cut
+abbrev pub RangeAboveLimit : Record → Request → Type 0
+RangeAboveLimit m r =
+    (r .limit ≢ 0) ×
+    ((r .limit < baseFor m r + sizeFor m r) ⊎ ((m .memory .base .0 + m .memory .frames) * 4096 < baseFor m r + sizeFor m r))
 
 -- it begins before memory, or ends after it
 abbrev pub RangeOutside : Record → Request → Type 0
@@ -66,6 +72,7 @@ module _ (m : Record) (r : Request) (t : Tables) where
     pub amounts : badRequest r ≡ false
     pub per-bit : ltb (m .memory .«block_order») (r .«order_per_bit») ≡ false
     pub limit : limitVanishes m r ≡ false
+    pub within : aboveLimit m r ≡ false
     pub bitmap : ltb (length (t .bitmap)) (wordsNeeded m + wordCount (areaFor m r t)) ≡ false
 
   -- the range at the c-th multiple of A: at or above the base, in memory, at or below the limit, and of free ordinary frames only
@@ -99,12 +106,12 @@ module _ (m : Record) (r : Request) (t : Tables) where
 abbrev pub DeclareTakesHighest : Type 0
 DeclareTakesHighest = (m : Record) (r : Request) (t : Tables) → Judged m r t → Anywhere m r → DeclareAnswers m r t × LimitInMemory m r t
 
--- ---- and ends at or below the limit as it was given: a camera's area is never above what the camera can reach
+-- ---- Fixed or not, it ends at or below the limit as it was given: a camera's area is never above what the camera can reach
 
 abbrev pub DeclareKeepsToLimit : Type 0
 DeclareKeepsToLimit =
     (m : Record) (r : Request) (t : Tables) (f n : ℕ) →
-    r .limit ≢ 0 → Anywhere m r → declare m r t .answer ≡ done f n → (f + n) * 4096 ≤ r .limit
+    r .limit ≢ 0 → declare m r t .answer ≡ done f n → (f + n) * 4096 ≤ r .limit
 
 -- ---- An accepted declare adds an area, on frames that were free and in none, and clears its words; nothing else changes
 

@@ -22,7 +22,7 @@ use Rattle.rules.specs.Boot.{zeroTables}
 use Rattle.rules.specs.Calls.{perform}
 use Rattle.rules.specs.promises.Boots.{regionRequest}
 use Rattle.rules.specs.promises.Changes.{kindAt, fieldAt}
-use Rattle.rules.specs.promises.Declares.{AtBase, Anywhere, RangeOutside, RangeTaken, NoPlace}
+use Rattle.rules.specs.promises.Declares.{AtBase, Anywhere, RangeAboveLimit, RangeOutside, RangeTaken, NoPlace}
 use Rattle.rules.specs.promises.Grants.{NoRun, NoTargets}
 use Rattle.rules.specs.promises.Pages.{NoneFreeOrdinary, Lowest, Stands, Live}
 use Rattle.rules.specs.promises.Shapes.{RightMemory, RightLengths, RightShape}
@@ -110,6 +110,7 @@ declareRefusal r m t =
     BadAmounts r answers 2 otherwise
     m .memory .«block_order» < r .«order_per_bit» answers 11 otherwise
     SmallLimit m r answers 11 otherwise
+    (AtBase m r × RangeAboveLimit m r) answers 11 otherwise
     ShortBitmap m r t answers 14 otherwise
     (AtBase m r × RangeOutside m r) answers 13 otherwise
     (AtBase m r × RangeTaken m r t) answers 12 otherwise

@@ -45,8 +45,8 @@ unfoldable pub planned : List Check → Area → Plan
 planned [] a = Made a
 planned (c ∷ cs) a = if c .holds then Not (c .number) else planned cs a
 
--- what is left to plan after so many of a declaration's checks: the first six are of the shape, the number of areas, the request, its
--- order, its limit and the bitmap's room, and the others say where the area goes
+-- what is left to plan after so many of a declaration's checks: the first seven are of the shape, the number of areas, the request, its
+-- order, its limit (two) and the bitmap's room, and the others say where the area goes
 abbrev pub planAfter : ℕ → Record → Request → Tables → Plan
 planAfter k m r t = planned (drop k (declareChecks m r t)) (areaFor m r t)
 
