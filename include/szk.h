@@ -155,7 +155,7 @@ void szk_boot(uint64_t *record, size_t record_length, uint32_t *marks, size_t ma
  *   SZK_OUT_OF_RANGE if an amount passes 2^48, size is 0, or alignment is neither 0 nor a power of
  *     two;
  *   SZK_ORDER_OR_LIMIT if order_per_bit is above b; or limit was not given as 0 and is less than A,
- *     or a fixed range ends above it;
+ *     or a fixed range ends above it or above memory;
  *   SZK_BITMAP_TOO_SHORT;
  *   fixed: SZK_NO_PLACE if outside memory, SZK_RANGE_NOT_FREE if some frame is not free or is in an
  *     area; otherwise: SZK_NO_PLACE if there is no such multiple.

@@ -12,6 +12,7 @@ pub mod pages;
 pub mod regions;
 pub mod replay;
 pub mod sample;
+pub mod searches;
 
 pub use areas::Request;
 pub use calls::{Call, State};

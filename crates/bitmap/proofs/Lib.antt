@@ -1,4 +1,7 @@
 pub mod Changes
-pub mod Each
+pub mod Finds
+pub mod Promises
 pub mod Runs
+pub mod Smears
 pub mod Word
+pub mod Zeros

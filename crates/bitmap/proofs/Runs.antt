@@ -2,27 +2,18 @@
 --     change-length, change-none, change-split, change-shift    a change keeps the length; of no bits; in two parts; from another word on
 --     change-at, change-out      from the word on that holds the first bit; past the words' end
 --     change-word, change-turn   within one word; a turn of the code's loop
---     clear-shift, clear-out, clear-word, clear-stop, clear-turn, run-at, run-out    the same of the test
-use Prim.Native.Nat.{ℕ, zero, suc, _+_, _-_, _*_, _/_, _%_, _^_, _≤_, _<_, min}
-use native.Mathlib.Nat.{add-zero, add-suc, suc-add, zero-add, zero-div, zero-mul, suc-mul, mod-one}
-use native.Mathlib.Numerals.{add-one}
+--     clear-out                  past the words' end a bit is clear
+use Prim.Native.Nat.{ℕ, zero, suc, _+_, _-_, _*_, _/_, _%_, _≤_, _<_, min}
+use native.Mathlib.Nat.{add-zero, add-suc, suc-add, zero-add, zero-div}
 use native.Mathlib.Omega.{arith}
 use mathlib.Core.Path.{_≡_, refl, sym, ap, _∙_}
-use mathlib.Core.Bool.{true, false, _&&_}
+use mathlib.Core.Bool.{true}
 use mathlib.Core.List.{List}
-use mathlib.Core.Logic.{_≢_}
-use lib.Dec.{eqb, eqb·suc-zero}
-use lib.Pow.{pow-pos}
 use lib.ListN.{length, getD, set, length-set, List·getD-eq-default}
 use lib.Seq.{set-out, set-getD, set-set, getD-set-same}
-use borrow.Author.Tests.{eq-eqb, ne-eqb}
-use Rattle.search.specs.Search.{every}
-use Rattle.search.proofs.Bools.{by-cases, below-or-not, clash, and-false-right}
-use Rattle.search.proofs.Ranges.{all-every, every-none, every-next, every-part}
-use Rattle.bitmap.specs.Bits.{bitOf, isClear, changeBit, changeBits}
-use Rattle.bitmap.specs.steps.Words.{bitsOf, changeIn}
-use Rattle.bitmap.proofs.Word.{bits-next}
-use Rattle.bitmap.proofs.Each.{every-move, every-skip}
+use Rattle.search.proofs.Bools.{below-or-not}
+use Rattle.bitmap.specs.Bits.{isClear, changeBit, changeBits}
+use Rattle.bitmap.specs.steps.Words.{changeIn}
 
 -- ---- how changes go together, for any f
 module _ (f : ℕ → ℕ → ℕ) where
@@ -97,65 +88,7 @@ module _ (f : ℕ → ℕ → ℕ) where
       let none : n - p ≡ 0 = omega arith in
       rw none (change-none next at (s + p) ∙ sym (change-none next (at + 1) 0)))
 
--- ---- which bits of a run are clear
-both-zero : (b m n : ℕ) → 0 < m → eqb (b * m + n) 0 ≡ (eqb n 0 && eqb b 0)
-both-zero zero m n h = rw (zero-mul m, zero-add n) (by-cases (eqb n 0) (λ t. rw t) (λ f. rw f))
-both-zero (suc b) m n h =
-    ne-eqb (suc b * m + n) 0 (λ e. omega (arith, suc-mul b m)) ∙ sym (rw eqb·suc-zero (and-false-right (eqb n 0)))
-
-module _ (ws : List ℕ) where
-  word-bit : (at s : ℕ) → s < 64 → isClear ws at s ≡ eqb (bitOf (getD ws at 0) s) 0
-  unfolding isClear
-  word-bit at s h =
-      let word : at + s / 64 ≡ at = omega arith in
-      let bit : s % 64 ≡ s = omega arith in
-      rw (word, bit)
-
-  -- q words on, and 64 bits fewer for each
-  pub clear-shift : (st q k : ℕ) → isClear ws st (64 * q + k) ≡ isClear ws (st + q) k
-  unfolding isClear
-  clear-shift st q k =
-      let word : st + (64 * q + k) / 64 ≡ st + q + k / 64 = omega arith in
-      let bit : (64 * q + k) % 64 ≡ k % 64 = omega arith in
-      rw (word, bit)
-
-  -- past the words' end a bit is clear
-  pub clear-out : (st k : ℕ) → length ws ≤ st + k / 64 → isClear ws st k ≡ true
-  unfolding isClear
-  clear-out st k h = rw (List·getD-eq-default ws 0 h, zero-div (2 ^ (k % 64)))
-
-  -- within one word
-  pub clear-word : (at s d : ℕ) → s + d ≤ 64 → every (isClear ws at) s d ≡ eqb (bitsOf (getD ws at 0) s d) 0
-  clear-word at s zero h = every-none (isClear ws at) s ∙ rw (mod-one (getD ws at 0 / 2 ^ s))
-  clear-word at s (suc d) h =
-      let w = getD ws at 0 in
-      rw (← add-one d, every-next (isClear ws at) s d, clear-word at s d (omega arith), word-bit at (s + d) (omega arith), bits-next w s d)
-      (sym (both-zero (bitOf w (s + d)) (2 ^ d) (bitsOf w s d) (pow-pos d)))
-
-  -- the two turns of the code's loop: a bit of this word is set; none is, and the rest is from the next word's first bit on
-  pub clear-stop : (at s n p : ℕ) → s < 64 → p ≡ min n (64 - s) → bitsOf (getD ws at 0) s p ≢ 0 → every (isClear ws at) s n ≡ false
-  clear-stop at s n p l e ne =
-      let here : every (isClear ws at) s p ≡ false = clear-word at s p (omega arith) ∙ ne-eqb (bitsOf (getD ws at 0) s p) 0 ne in
-      by-cases (every (isClear ws at) s n) (λ t. clash (every (isClear ws at) s p) (every-part (isClear ws at) s n s p (omega arith) (omega arith) t) here) (λ f. f)
-
-  pub clear-turn : (at s n p : ℕ) → s < 64 → p ≡ min n (64 - s) → bitsOf (getD ws at 0) s p ≡ 0
-      → every (isClear ws at) s n ≡ every (isClear ws (at + 1)) 0 (n - p)
-  clear-turn at s n p l e z =
-      let sum : n ≡ p + (n - p) = omega arith in
-      let here : every (isClear ws at) s p ≡ true = clear-word at s p (omega arith) ∙ eq-eqb (bitsOf (getD ws at 0) s p) 0 z in
-      ap (every (isClear ws at) s) sum ∙ every-skip (isClear ws at) s p (n - p) here
-      ∙ every-move (isClear ws at) (isClear ws (at + 1)) (s + p) 0 (n - p)
-      (λ k h.
-      let end : s + p + k ≡ 64 * 1 + k = omega arith in
-      rw (end, zero-add k) (clear-shift at 1 k))
-
-  pub run-out : (st i d : ℕ) → length ws ≤ st + i / 64 → every (isClear ws st) i d ≡ true
-  run-out st i d h = all-every (isClear ws st) i d (λ k a b. clear-out st k (omega arith))
-
-  -- a run from the word on that holds its first bit
-  pub run-at : (st i d at : ℕ) → st + i / 64 ≡ at → every (isClear ws st) i d ≡ every (isClear ws at) (i % 64) d
-  run-at st i d at here =
-      every-move (isClear ws st) (isClear ws at) i (i % 64) d
-      (λ k h.
-      let place : i + k ≡ 64 * (i / 64) + (i % 64 + k) = omega arith in
-      rw (place, ← here) (clear-shift st (i / 64) (i % 64 + k)))
+-- ---- past the words' end a bit is clear
+pub clear-out : (ws : List ℕ) (st k : ℕ) → length ws ≤ st + k / 64 → isClear ws st k ≡ true
+unfolding isClear
+clear-out ws st k h = simp (List·getD-eq-default ws 0 h, zero-div)

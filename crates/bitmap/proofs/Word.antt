@@ -3,16 +3,16 @@
 --     bit-here, bit-other   what f does to the bit, and to another
 --     change-in             what a run's change within a word comes to, as a sum
 --     set-run-in, clear-run-in    the same as the code makes it
---     bits-next, bits-le, bits-none    a run of bits as a number: one bit more; where it stands, it is part of the word; it is none
+--     bits-le               a run of bits as a number: where it stands, it is part of the word
 use Prim.Native.Nat.{ℕ, zero, suc, _+_, _-_, _*_, _/_, _%_, _^_, _≤_, _<_}
-use native.Mathlib.Nat.{add-mul, mul-assoc, add-zero, pow-suc, mod-lt, div-add-mod', zero-div, zero-mul, mod-one, mod-le, le-trans, mul-le-mul-right, div-mul-le-self, mul-right-comm}
+use native.Mathlib.Nat.{add-mul, mul-assoc, add-zero, pow-suc, mod-lt, div-add-mod', zero-mul, mod-one, mod-le, le-trans, mul-le-mul-right, div-mul-le-self, mul-right-comm}
 use native.Mathlib.Numerals.{add-one}
 use native.Mathlib.Omega.{arith}
 use mathlib.Core.Path.{_≡_, sym, ap, subst, _∙_}
 use mathlib.Core.Logic.{_≢_}
 use lib.Arith.{digits-div, digits-mod}
 use lib.Bits.{bitOr, or-add-and, and-high}
-use lib.Pow.{pow-pos, pow-mono, split, high, low, field, mod-mod-pow, mod-pow-add, shr-shr, shl-shr}
+use lib.Pow.{pow-pos, pow-mono, split, high, low, field, mod-mod-pow, mod-pow-add, shr-shr}
 use Rattle.search.proofs.Bools.{below-or-not}
 use Rattle.bitmap.specs.Bits.{bitOf, setIn, clearIn}
 use Rattle.bitmap.specs.steps.Words.{bitsOf, changeIn}
@@ -58,12 +58,7 @@ high-bit x s t h =
 double : (a s : ℕ) → a * 2 ^ suc s ≡ a * 2 ^ s * 2
 double a s = ap (λ (x : ℕ). a * x) (pow-suc 2 s) ∙ sym (mul-assoc a (2 ^ s) 2)
 
--- ---- a run of bits as a number: one bit more at its end, or at its start
-pub bits-next : (w s d : ℕ) → bitsOf w s (d + 1) ≡ bitOf w (s + d) * 2 ^ d + bitsOf w s d
-bits-next w s d =
-    ap (λ (x : ℕ). w / 2 ^ s % 2 ^ x) (omega arith) ∙ mod-pow-add (w / 2 ^ s) 1 d
-    ∙ ap (λ (x : ℕ). x % 2 * 2 ^ d + bitsOf w s d) (shr-shr w s d)
-
+-- ---- a run of bits as a number: one bit more at its start
 bits-first : (w s d : ℕ) → bitsOf w s (suc d) ≡ bitsOf w (suc s) d * 2 + bitOf w s
 bits-first w s d =
     ap (λ (x : ℕ). w / 2 ^ s % 2 ^ x) (sym (add-one d)) ∙ mod-pow-add (w / 2 ^ s) d 1
@@ -71,9 +66,6 @@ bits-first w s d =
 
 pub bits-le : (w s d : ℕ) → bitsOf w s d * 2 ^ s ≤ w
 bits-le w s d = le-trans (mul-le-mul-right (2 ^ s) (mod-le (w / 2 ^ s) (2 ^ d))) (div-mul-le-self w (2 ^ s))
-
-pub bits-none : (w s d : ℕ) → bitsOf w s d * 2 ^ s ≡ 0 → bitsOf w s d ≡ 0
-bits-none w s d e = sym (shl-shr (bitsOf w s d) s) ∙ ap (λ (x : ℕ). x / 2 ^ s) e ∙ zero-div (2 ^ s)
 
 module _ {f : ℕ → ℕ → ℕ} {v : ℕ} (ch : Change f v) where
   new-parts : (w s : ℕ) → f w s ≡ (w / 2 ^ suc s * 2 + v) * 2 ^ s + w % 2 ^ s

@@ -3,9 +3,13 @@
 // that could be too large. Past the words' end a bit is clear, and there is nothing to change.
 ghost use Prim.Native.Nat.{_+_, _-_, _*_, _/_, _^_, _≤_, _<_, min};
 ghost use mathlib.Core.Path.{_≡_};
-ghost use Rattle.search.specs.Search.{every};
-ghost use Rattle.bitmap.specs.Bits.{isClear, changeBits, setBits, clearBits};
+ghost use Rattle.bitmap.specs.Bits.{changeBits, setBits, clearBits};
 ghost use Rattle.bitmap.specs.steps.Words.{bitsOf, changeIn, putIn};
+
+mod looks;
+
+pub use looks::clear_bits;
+pub use looks::next_open;
 
 // Ones at the `count` bits from bit `low` on, which lie in a word.
 fn mask(low: usize, count: usize) -> u64
@@ -43,29 +47,6 @@ fn in_word(left: usize, low: usize) -> usize
         return left;
     }
     64 - low
-}
-
-// The test of `run_is_clear`, of a bitmap that begins at the run's first word.
-fn clear_from(words: &[u64], at: usize, low: usize, count: usize) -> bool
-    requires { ⌜ low < 64 ⌝ }
-    ensures { λ r. ⌜ r ≡ every (isClear (now (words .entry)) at) low count ⌝ }
-{
-    let mut at = at;
-    let mut low = low;
-    let mut unseen = count;
-    while unseen > 0 {
-        if words.len() <= at {
-            return true;
-        }
-        let part = in_word(unseen, low);
-        if picked(words[at], low, part) != 0 {
-            return false;
-        }
-        unseen -= part;
-        at += 1;
-        low = 0;
-    }
-    true
 }
 
 // The change of `set_run` or `clear_run`, of a bitmap that begins at the run's first word.
@@ -111,18 +92,7 @@ fn change_run(words: &mut [u64], start: usize, from: usize, count: usize, set: b
     }
 }
 
-// Whether the `count` bits from bit `from` on, of the bitmap that begins at word `start`, are all clear.
-pub fn run_is_clear(words: &[u64], start: usize, from: usize, count: usize) -> bool
-    ensures { λ r. ⌜ r ≡ every (isClear (now (words .entry)) start) from count ⌝ }
-{
-    let at = word_of(words.len(), start, from);
-    if at < words.len() {
-        return clear_from(words, at, from % 64, count);
-    }
-    true
-}
-
-// Sets those bits.
+// Sets the `count` bits from bit `from` on, of the bitmap that begins at word `start`.
 pub fn set_run(words: &mut [u64], start: usize, from: usize, count: usize)
     ensures { λ _. ⌜ now (words .exit) ≡ setBits (now (words .entry)) start from count ⌝ }
 {

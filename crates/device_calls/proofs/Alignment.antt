@@ -1,16 +1,17 @@
 -- Bits whose first frames are multiples of a power of two: where the first stands, and how far apart they are. Assumes nothing.
 --     Steps, steps-known      the distance between them
---     aligned-next, aligned-between    one distance on is the next; none stands between
+--     aligned-times, aligned-between    so many distances on stand others; none stands between two
+--     aligned-is                       so each is some distances behind the first
 --     first-whole, first-later         the first of all
-use Prim.Native.Nat.{ℕ, _+_, _-_, _*_, _/_, _%_, _^_, _≤_, _<_}
+use Prim.Native.Nat.{ℕ, zero, suc, _+_, _-_, _*_, _/_, _%_, _^_, _≤_, _<_}
 use native.Mathlib.Omega.{arith}
-use native.Mathlib.Nat.{add-mul, mul-lt-mul-of-pos-right, mul-pos, mod-lt, mod-self, mod-add-mod, mod-eq-of-lt, mul-mod-left, zero-mod, div-add-mod', div-le-self, mul-div-cancel, mod-mod-of-dvd, dvd-of-mod-eq-zero, one-mul, zero-mul}
+use native.Mathlib.Nat.{add-mul, mul-lt-mul-of-pos-right, mul-pos, mod-lt, mod-self, mod-add-mod, mod-eq-of-lt, mul-mod-left, zero-mod, div-add-mod', div-le-self, mul-div-cancel, mod-mod-of-dvd, dvd-of-mod-eq-zero, one-mul, zero-mul, suc-mul}
 use mathlib.Core.Path.{_≡_, sym, ap, _∙_}
 use mathlib.Core.Bool.{true, false}
 use lib.Arith.{digits-mod, mod-mul}
 use lib.Pow.{pow-add, pow-pos, pow-mono}
 use borrow.Author.Tests.{eq-eqb, ne-eqb, eqb-true}
-use Rattle.search.proofs.Bools.{below-or-not}
+use Rattle.search.proofs.Bools.{below-or-not, clash}
 use Rattle.frames.specs.declared.Area.{Area}
 use Rattle.rules.specs.Limits.{mostAlignOrder}
 use Rattle.device_calls.specs.steps.DeviceSteps.{isAligned, FirstAligned}
@@ -73,10 +74,17 @@ module _ (a : Area) (align : ℕ) where
   further : (j e : ℕ) → first-of (j + e) ≡ first-of j + e * per
   further j e = omega (arith, add-mul j e per)
 
-  pub aligned-next : (s j : ℕ) → Steps s → isAligned a align j ≡ true → isAligned a align (j + s) ≡ true
+  aligned-next : (s j : ℕ) → Steps s → isAligned a align j ≡ true → isAligned a align (j + s) ≡ true
   aligned-next s j k h =
       eq-eqb (first-of (j + s) % 2 ^ align) 0
       (ap (λ (x : ℕ). x % 2 ^ align) (further j s) ∙ on-multiple (first-of j) (s * per) (2 ^ align) (eqb-true (first-of j % 2 ^ align) 0 h) (k .whole))
+
+  -- and so are more of them
+  pub aligned-times : (s j : ℕ) → Steps s → isAligned a align j ≡ true → (n : ℕ) → isAligned a align (j + n * s) ≡ true
+  aligned-times s j k h zero = ap (isAligned a align) (let none : j + 0 * s ≡ j = omega (arith, zero-mul s) in none) ∙ h
+  aligned-times s j k h (suc n) =
+      ap (isAligned a align) (let one : j + suc n * s ≡ (j + n * s) + s = omega (arith, suc-mul n s) in one) ∙
+      aligned-next s (j + n * s) k (aligned-times s j k h n)
 
   pub aligned-between : (s j k : ℕ) → Steps s → isAligned a align j ≡ true → j < k → k < j + s → isAligned a align k ≡ false
   aligned-between s j k w h l u =
@@ -86,6 +94,18 @@ module _ (a : Area) (align : ℕ) where
       off-multiple (first-of j) ((k - j) * per) (2 ^ align) (eqb-true (first-of j % 2 ^ align) 0 h)
       (mul-pos {m = k - j} {n = per} (omega arith) (pow-pos (a .«order_per_bit»))) (w .short (k - j) (omega arith) (omega arith))
       (sym (ap (λ (x : ℕ). x % 2 ^ align) (ap first-of e ∙ further j (k - j))) ∙ z))
+
+  -- an aligned bit is some steps behind another that no aligned one comes before
+  pub aligned-is : (s j k : ℕ) → Steps s → FirstAligned a align j → isAligned a align k ≡ true → k ≡ j + (k - j) / s * s
+  aligned-is s j k w f h =
+      below-or-not k j (λ l. clash (isAligned a align k) h (f .miss k l))
+      (λ l.
+      let q = (k - j) / s in
+      let rest = div-add-mod' (k - j) s in
+      let less : (k - j) % s < s = mod-lt (k - j) (w .positive) in
+      below-or-not (j + q * s) k
+      (λ m. clash (isAligned a align k) h (aligned-between s (j + q * s) k w (aligned-times s j w (f .hit) q) m (omega arith)))
+      (λ m. omega arith))
 
   -- ---- the first of all
   pub first-whole : a .base .0 % 2 ^ align ≡ 0 → FirstAligned a align 0

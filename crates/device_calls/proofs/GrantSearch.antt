@@ -1,18 +1,18 @@
 -- The search for the lowest bit at which a run can be granted. Assumes nothing.
 --     Looking             what holds at the head of the loop: the bit is aligned, and none below it will do
---     look-start, look-hit, look-turn, look-end, look-none
+--     look-start, look-hit, look-skip, look-end, look-none
 --     found-chosen        what it finds is what the rules choose
 use Prim.Native.Nat.{ℕ, _+_, _-_, _*_, _^_, _≤_, _<_}
 use native.Mathlib.Omega.{arith}
-use native.Mathlib.Nat.{mul-le-mul}
-use mathlib.Core.Path.{_≡_, refl, sym, ap, ap₂, subst, _∙_}
+use native.Mathlib.Nat.{add-mul, one-mul, mul-le-mul, div-mul-le-self}
+use mathlib.Core.Path.{_≡_, refl, sym, ap, ap₂, _∙_}
 use mathlib.Core.Bool.{Bool, true, false, _&&_}
 use mathlib.Core.List.{List}
 use lib.Dec.{leb}
 use lib.Pow.{pow-pos, pow-mono}
 use borrow.Author.Tests.{le-leb, lt-leb}
 use Rattle.search.specs.Search.{lowest, every}
-use Rattle.search.proofs.Bools.{below-or-not}
+use Rattle.search.proofs.Bools.{by-cases, below-or-not}
 use Rattle.search.proofs.Lowest.{found-is, found-none}
 use Rattle.bitmap.specs.Bits.{isClear}
 use Rattle.frames.specs.declared.Area.{Area}
@@ -20,7 +20,7 @@ use Rattle.frames.specs.declared.Bit.{Bit}
 use Rattle.frames.specs.declared.Frame.{Frame}
 use Rattle.frames.specs.Units.{bit, mostNumber}
 use Rattle.frames.specs.Marks.{canLeave}
-use Rattle.frames.specs.Areas.{perBit, bitCount, bitsFor, frameOfBit}
+use Rattle.frames.specs.Areas.{perBit, ceiling, bitCount, bitsFor, frameOfBit}
 use Rattle.frames.specs.Scans.{marked}
 use Rattle.frames.specs.Tables.{Tables}
 use Rattle.rules.specs.declared.Record.{Record}
@@ -29,7 +29,7 @@ use Rattle.rules.specs.Limits.{mostFrames, mostEnd, mostBlockOrder}
 use Rattle.rules.specs.DeviceCalls.{bitmapOf, isCandidate, isGrantable, chosen}
 use Rattle.rules.proofs.Divisions.{ceiling-some}
 use Rattle.device_calls.specs.steps.DeviceSteps.{isAligned, FirstAligned}
-use Rattle.device_calls.proofs.Alignment.{Steps, aligned-next, aligned-between}
+use Rattle.device_calls.proofs.Alignment.{Steps, aligned-times, aligned-between}
 
 -- four tests in a row
 first-fails : (a l c v : Bool) → a ≡ false → (a && l && c && v) ≡ false
@@ -41,9 +41,6 @@ second-fails false l c v e = refl
 
 last-two : (a l c v : Bool) → a ≡ true → l ≡ true → (a && l && c && v) ≡ (c && v)
 last-two a l c v e f = rw (e, f)
-
-pub second-left : (c v : Bool) → c ≡ true → v ≡ (c && v)
-second-left c v e = rw e
 
 -- the frames of a bit are numbers of the machine
 pub bit-fits : (a : Area) (j : ℕ) → a .«order_per_bit» ≤ mostBlockOrder → a .base .0 ≤ mostEnd → j ≤ mostFrames → frameOfBit a (bit j) .0 ≤ mostNumber
@@ -100,19 +97,25 @@ module _ (marks bitmap : List ℕ) (base : Frame) (a : Area) (start count align 
         let p : 0 < bits = ceiling-some count (perBit a) (pow-pos (a .«order_per_bit»)) c in
         ap bit (sym (found-is test all j (omega arith) (here-is j (l .aligned) (omega arith) ∙ sym (free-is j) ∙ f) (l .none)))
 
-    pub look-turn : (s j : ℕ) → Steps a align s → Looking j → j + n ≤ all → free j ≡ false → Looking (j + s)
-    look-turn s j w l h f =
-        record {
-          aligned = aligned-next a align s j w (l .aligned);
-          none =
-              λ k u.
-              below-or-not k j (λ v. l .none k v)
-              (λ v.
-              below-or-not j k (λ x. not-aligned k (aligned-between a align s j k w (l .aligned) x u))
-              (λ x.
-              let same : j ≡ k = omega arith in
-              subst (λ (y : ℕ). test y ≡ false) same (here-is j (l .aligned) (omega arith) ∙ sym (free-is j) ∙ f)));
-        }
+    -- the bits that were ruled out, and those from there on to the next aligned one
+    pub look-skip : (s j passed : ℕ) → Steps a align s → Looking j → 0 < passed → ((k : ℕ) → j ≤ k → k < j + passed → isAligned a align k ≡ true → free k ≡ false) → Looking (j + ceiling passed s * s)
+    look-skip s j passed w l some ruled =
+        record { aligned = aligned-times a align s j w (l .aligned) (ceiling passed s); none = λ k u. below-or-not k j (l .none k) (λ v. behind k v u) }
+      where
+        out : (k : ℕ) → j ≤ k → k < j + passed → test k ≡ false
+        out k v u =
+            by-cases (isAligned a align k)
+            (λ e. below-or-not all (k + bits) (out-of-room k) (λ room. here-is k e room ∙ sym (free-is k) ∙ ruled k v u e)) (not-aligned k)
+
+        behind : (k : ℕ) → j ≤ k → k < j + ceiling passed s * s → test k ≡ false
+        behind k v u =
+            below-or-not k (j + passed) (out k v)
+            (λ past.
+            let steps : ceiling passed s ≡ (ceiling passed s - 1) + 1 = omega (arith, ceiling-some passed s (w .positive) some) in
+            let apart : ceiling passed s * s ≡ (ceiling passed s - 1) * s + s = ap (λ (x : ℕ). x * s) steps ∙ add-mul (ceiling passed s - 1) 1 s ∙ ap (λ (x : ℕ). (ceiling passed s - 1) * s + x) (one-mul s) in
+            let short = div-mul-le-self (passed + (s - 1)) s in
+            not-aligned k
+            (aligned-between a align s (j + (ceiling passed s - 1) * s) k w (aligned-times a align s j w (l .aligned) (ceiling passed s - 1)) (omega (arith, w .positive)) (omega arith)))
 
     pub look-end : (j : ℕ) → Looking j → all < j + n → bit all ≡ found
     look-end j l h =

@@ -5,3 +5,5 @@ pub mod GrantSearch
 pub mod MoveFacts
 pub mod RefusalFacts
 pub mod ReleaseOutcomes
+pub mod Starts
+pub mod Tries

@@ -10,6 +10,7 @@ ghost use Rattle.rules.specs.DeviceCalls.{deviceStore, deviceRead, freeRun, rel
 ghost use Rattle.rules.specs.Does.{recordWith, given, Answers};
 ghost use Rattle.device_calls.specs.steps.DeviceSteps.{RunFits};
 
+mod aligned;
 mod checks;
 mod moves;
 mod runs;

@@ -4,3 +4,4 @@ pub mod FillFacts
 pub mod MarkFacts
 pub mod RunFacts
 pub mod ScanFacts
+pub mod Stuck

@@ -2,8 +2,10 @@
 use Prim.Native.Nat.{ℕ, _+_}
 use mathlib.Core.Bool.{Bool, not, _&&_}
 use mathlib.Core.List.{List}
+use lib.Bits.{bitAnd}
 use lib.Dec.{eqb}
 use lib.ListN.{getD}
+use Rattle.search.specs.Choice.{if_then_else_}
 use Rattle.frames.specs.declared.Frame.{Frame}
 use Rattle.frames.specs.Units.{frame}
 use Rattle.frames.specs.Marks.{fieldOf, hasKind, free}
@@ -12,6 +14,10 @@ use Rattle.frames.specs.Areas.{inAreas}
 -- a test of the mark at a place; past the end a mark reads 0
 abbrev pub marked : (ℕ → Bool) → List ℕ → ℕ → Bool
 marked test marks i = test (getD marks i 0)
+
+-- the mark has a bit of a mask, or none
+unfoldable pub hasBits : Bool → ℕ → ℕ → Bool
+hasBits any mask mark = if any then not (eqb (bitAnd mark mask) 0) else eqb (bitAnd mark mask) 0
 
 abbrev pub hasField : ℕ → ℕ → Bool
 hasField field mark = eqb (fieldOf mark) field

@@ -1,14 +1,16 @@
 // Scans of the marks. A long scan goes by blocks of 32: whether a block can hold what is sought is asked of all 32 with no exit between
-// them, which the compiler turns into vector instructions, and only a block that can is looked through place by place.
+// them, which the compiler turns into vector instructions, and only a block that can is looked through place by place. `stuck_in` looks at
+// the first few places so before.
 ghost use Prim.Native.Nat.{_≤_, _+_, _-_};
 ghost use mathlib.Core.Path.{_≡_};
+ghost use mathlib.Core.Bool.{true, not};
 ghost use lib.Dec.{leb};
 ghost use lib.ListN.{length};
 ghost use Rattle.search.specs.Choice.{if_then_else_};
 ghost use Rattle.search.specs.Search.{lowest, lowestFrom, some, every, howMany};
 ghost use Rattle.frames.specs.Units.{place};
 ghost use Rattle.frames.specs.Marks.{hasKind, isPageOf, canLeave, free, movable, later};
-ghost use Rattle.frames.specs.Scans.{marked, hasField, isFreeOrdinary};
+ghost use Rattle.frames.specs.Scans.{marked, hasBits, hasField, isFreeOrdinary};
 use crate::Frame;
 use crate::Place;
 use crate::areas::ordinary_run;
@@ -116,15 +118,30 @@ pub fn find_page(marks: &[u32], name: u64) -> Place
     page_in(marks, name as u32, Place(0), Place(len))
 }
 
-// The same as `free_in`, place by place.
-fn free_one_by_one(marks: &[u32], from: Place, end: Place) -> Place
+// The bits of a mark's kind. A free mark has none of them; the upper two are those that neither a free nor a movable one has.
+const KIND_BITS: u32 = 7;
+
+const STUCK_BITS: u32 = 6;
+
+// The mark has a bit of the mask or, where `any` is false, none.
+fn has_bits(mark: u32, mask: u32, any: bool) -> bool
+    ensures { λ r. ⌜ r ≡ hasBits any mask mark ⌝ }
+{
+    if any {
+        return mark & mask != 0;
+    }
+    mark & mask == 0
+}
+
+// The same as `kind_in`, place by place.
+fn kind_one_by_one(marks: &[u32], mask: u32, any: bool, from: Place, end: Place) -> Place
     requires { ⌜ (from .0 ≤ end .0) × (end .0 ≤ length (now marks)) ⌝ }
-    ensures { λ r. ⌜ r .0 ≡ lowestFrom (marked (hasKind free) (now (marks .entry))) (from .0) (end .0 - from .0) ⌝ }
+    ensures { λ r. ⌜ r .0 ≡ lowestFrom (marked (hasBits any mask) (now (marks .entry))) (from .0) (end .0 - from .0) ⌝ }
 {
     let last = end.0;
     let mut i = from.0;
     while i < last {
-        if marks[i] % 8 == FREE {
+        if has_bits(marks[i], mask, any) {
             return Place(i);
         }
         i += 1;
@@ -132,48 +149,35 @@ fn free_one_by_one(marks: &[u32], from: Place, end: Place) -> Place
     Place(i)
 }
 
-// Some mark of the block is free.
-fn block_has_free(marks: &[u32], from: Place) -> bool
+// Some mark of the block is such a one.
+fn block_has_kind(marks: &[u32], mask: u32, any: bool, from: Place) -> bool
     requires { ⌜ from .0 + 32 ≤ length (now marks) ⌝ }
-    ensures { λ r. ⌜ r ≡ some (marked (hasKind free) (now (marks .entry))) (from .0) 32 ⌝ }
+    ensures { λ r. ⌜ r ≡ some (marked (hasBits any mask) (now (marks .entry))) (from .0) 32 ⌝ }
 {
     let first = from.0;
     let mut hit = false;
     let mut j = 0;
     while j < 32 {
-        hit = hit | (marks[first + j] % 8 == FREE);
+        hit = hit | has_bits(marks[first + j], mask, any);
         j += 1;
     }
     hit
 }
 
-// The same as `free_in`, in one block.
-fn free_in_block(marks: &[u32], from: Place) -> Place
-    requires { ⌜ from .0 + 32 ≤ length (now marks) ⌝ }
-    ensures { λ r. ⌜ r .0 ≡ lowestFrom (marked (hasKind free) (now (marks .entry))) (from .0) ((from .0 + 32) - from .0) ⌝ }
-{
-    let end = Place(from.0 + 32);
-    if block_has_free(marks, from) {
-        return free_one_by_one(marks, from, end);
-    }
-    end
-}
-
-// The lowest free place of a range; the range's end where there is none.
-fn free_in(marks: &[u32], from: Place, end: Place) -> Place
+// The lowest place of a range whose mark has a bit of the mask, or none; the range's end where there is no such.
+fn kind_in(marks: &[u32], mask: u32, any: bool, from: Place, end: Place) -> Place
     requires { ⌜ (from .0 ≤ end .0) × (end .0 ≤ length (now marks)) ⌝ }
-    ensures { λ r. ⌜ r .0 ≡ lowestFrom (marked (hasKind free) (now (marks .entry))) (from .0) (end .0 - from .0) ⌝ }
+    ensures { λ r. ⌜ r .0 ≡ lowestFrom (marked (hasBits any mask) (now (marks .entry))) (from .0) (end .0 - from .0) ⌝ }
 {
     let last = end.0;
     let mut i = from.0;
     while 32 <= last - i {
-        let at = free_in_block(marks, Place(i));
-        if at.0 < i + 32 {
-            return at;
+        if block_has_kind(marks, mask, any, Place(i)) {
+            return kind_one_by_one(marks, mask, any, Place(i), end);
         }
         i += 32;
     }
-    free_one_by_one(marks, Place(i), end)
+    kind_one_by_one(marks, mask, any, Place(i), end)
 }
 
 // The lowest free place at all.
@@ -181,22 +185,40 @@ pub fn find_free(marks: &[u32]) -> Place
     ensures { λ r. ⌜ r ≡ place (lowest (marked (hasKind free) (now (marks .entry))) (length (now (marks .entry)))) ⌝ }
 {
     let len = marks.len();
-    free_in(marks, Place(0), Place(len))
+    kind_in(marks, KIND_BITS, false, Place(0), Place(len))
 }
 
-// Each of the `count` places from `from` on is free or movable.
-pub fn can_leave(marks: &[u32], from: Place, count: u64) -> bool
-    ensures { λ r. ⌜ r ≡ every (marked canLeave (now (marks .entry))) (from .0) count ⌝ }
+// The lowest place of a range that is neither free nor movable; the range's end where there is none. Where such places stand close together
+// one is among the first few, so no block is asked before those have been looked at.
+fn stuck_in(marks: &[u32], from: Place, end: Place) -> Place
+    requires { ⌜ (from .0 ≤ end .0) × (end .0 ≤ length (now marks)) ⌝ }
+    ensures { λ r. ⌜ r .0 ≡ lowestFrom (marked (hasBits true 6) (now (marks .entry))) (from .0) (end .0 - from .0) ⌝ }
 {
-    let end = range_end(from.0, count, marks.len());
-    let mut i = from.0;
-    while i < end {
-        if MOVABLE < marks[i] % 8 {
-            return false;
-        }
-        i += 1;
+    if end.0 - from.0 < 32 {
+        return kind_one_by_one(marks, STUCK_BITS, true, from, end);
     }
-    true
+    let few = Place(from.0 + 8);
+    let at = kind_one_by_one(marks, STUCK_BITS, true, from, few);
+    if at.0 < few.0 {
+        return at;
+    }
+    kind_in(marks, STUCK_BITS, true, from, end)
+}
+
+// How many of the `count` places from `from` on come before the first that is neither free nor movable.
+pub fn first_stuck(marks: &[u32], from: Place, count: u64) -> u64
+    ensures { λ r. ⌜ r ≡ lowest (λ k. not (marked canLeave (now (marks .entry)) (from .0 + k))) count ⌝ }
+{
+    let first = from.0;
+    let end = range_end(first, count, marks.len());
+    if end <= first {
+        return count;
+    }
+    let at = stuck_in(marks, from, Place(end));
+    if at.0 < end {
+        return (at.0 - first) as u64;
+    }
+    count
 }
 
 // Each of the `count` places from `from` on is a later frame of a grant.
@@ -263,7 +285,7 @@ pub fn find_free_ordinary(
     let mut i = from.0;
     while i < len {
         let run = ordinary_run(base, areas, declared, Place(i), Place(len));
-        let at = free_in(marks, run.from, run.end);
+        let at = kind_in(marks, KIND_BITS, false, run.from, run.end);
         if at.0 < run.end.0 {
             return at;
         }

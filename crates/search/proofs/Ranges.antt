@@ -3,9 +3,10 @@
 --     every-all, all-every, every-miss    the same of "each": each passes; so each does; one that fails is enough against it
 --     some-next, every-next            the range grows by one at its end, as a loop does that has looked at d numbers from i on
 --     some-cong, every-cong            they go by the test's values in the range alone
+--     every-move                       the same test in another place
 --     every-part                       what each number of a range passes, each of a part of it does
 --     every-up, every-done, every-stops    a loop from 0: one more passes; it has come to the end; one fails
-use Prim.Native.Nat.{ℕ, _+_, _≤_, _<_}
+use Prim.Native.Nat.{ℕ, _+_, _-_, _≤_, _<_}
 use native.Mathlib.Omega.{arith}
 use mathlib.Core.Path.{_≡_, sym, ap, subst, _∙_}
 use mathlib.Core.Bool.{Bool, true, false, not, _&&_, _||_}
@@ -64,6 +65,17 @@ some-cong p q i d same = ap (λ (k : ℕ). ltb k (i + d)) (lowest-cong p q i d s
 pub every-cong : (p q : ℕ → Bool) (i d : ℕ) → ((k : ℕ) → i ≤ k → k < i + d → p k ≡ q k) → every p i d ≡ every q i d
 unfolding every
 every-cong p q i d same = ap not (some-cong (λ k. not (p k)) (λ k. not (q k)) i d (λ k a b. ap not (same k a b)))
+
+pub every-move : (p q : ℕ → Bool) (i j d : ℕ) → ((k : ℕ) → k < d → p (i + k) ≡ q (j + k)) → every p i d ≡ every q j d
+every-move p q i j d same =
+    by-cases (every q j d)
+    (λ t. all-every p i d (λ k a b. subst (λ (x : ℕ). p x ≡ true) (omega arith) (same (k - i) (omega arith) ∙ every-all q j d t (j + (k - i)) (omega arith) (omega arith))) ∙ sym t)
+    (λ f.
+    let w = every-no q j d f in
+    let k : ℕ = w .at - j in
+    let here : w .at ≡ j + k = omega (arith, w .low) in
+    every-miss p i d (i + k) (omega arith) (omega (arith, w .low, w .high))
+    (same k (omega (arith, w .low, w .high)) ∙ ap q (sym here) ∙ not-flips (q (w .at)) (w .hit)) ∙ sym f)
 
 pub every-part : (p : ℕ → Bool) (i d j e : ℕ) → i ≤ j → j + e ≤ i + d → every p i d ≡ true → every p j e ≡ true
 every-part p i d j e a b t = all-every p j e (λ k u v. every-all p i d t k (omega arith) (omega arith))

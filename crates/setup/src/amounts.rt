@@ -16,7 +16,8 @@ use rules::Memory;
 use rules::Record;
 use rules::Request;
 
-// A request's amounts as the search takes them: the alignment with a block at the least, and base, size and limit rounded to it.
+// A request's amounts as the search takes them: the alignment with a block at the least, base, size and limit rounded to it, and
+// the limit cut to the end of memory.
 pub struct Rounded {
     pub alignment: u64,
     pub base: u64,

@@ -39,7 +39,7 @@ fn lacks_room(areas: &[u64], declared: u64, bitmap: &[u64], area: Area) -> bool
     room - used < area.words()
 }
 
-// Whether the limit can be kept, whether the bitmap has room for the area, which its size alone says, and where the area goes. What is asked is
+// Whether the limit can be kept, whether the bitmap has room for the area, which its size and k say, and where the area goes. What is asked is
 // worked out first, and judged in the rules' order.
 fn plan_rounded(
     memory: Memory,

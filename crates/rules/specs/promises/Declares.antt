@@ -106,7 +106,7 @@ module _ (m : Record) (r : Request) (t : Tables) where
 abbrev pub DeclareTakesHighest : Type 0
 DeclareTakesHighest = (m : Record) (r : Request) (t : Tables) → Judged m r t → Anywhere m r → DeclareAnswers m r t × LimitInMemory m r t
 
--- ---- Fixed or not, it ends at or below the limit as it was given: a camera's area is never above what the camera can reach
+-- ---- Fixed or not, with a limit other than 0 it ends at or below it, as it was given: a camera's area is never above what the camera can reach
 
 abbrev pub DeclareKeepsToLimit : Type 0
 DeclareKeepsToLimit =

@@ -1,0 +1,13 @@
+-- `device_calls::runs::later` meets its contract: by the test. Assumes nothing.
+use native.Mathlib.Omega.{arith}
+use Rattle.device_calls.proofs.runs.later.Statement.{statement}
+use Rattle.device_calls.proofs.runs.later.Tie as tie
+
+returns : tie.Need-returns
+returns c = omega arith
+
+returns-2 : tie.Need-returns-2
+returns-2 c = omega arith
+
+pub later-spec : {M : Type 1} → statement M
+later-spec = tie.close (tie.spec returns returns-2)

@@ -1,0 +1,72 @@
+//! Days of grants that search an area of 1,024 frames to its end and find no
+//! run: those in which pinned pages stand in the way, and those in which set bits
+//! do.
+
+use crate::calls::Call;
+use crate::machine::{Answer, PAGE};
+use crate::replay::{encode, Station, FRAMES};
+use crate::Request;
+
+const AREA_FRAMES: u64 = 1_024;
+
+struct Day {
+    station: Station,
+    out: Vec<u8>,
+    /// The area's first frame.
+    first: u64,
+}
+
+impl Day {
+    /// A station with the area declared and nothing else in it.
+    fn open() -> Day {
+        let mut day = Day { station: Station::new(), out: Vec::new(), first: 0 };
+        day.make(Call::Boot { base: 16, frames: FRAMES as u64, order: 0, text: Vec::new() });
+        day.first = day.make(Call::Declare(Request { size: AREA_FRAMES * PAGE, ..Request::default() })).first;
+        day
+    }
+
+    fn make(&mut self, call: Call) -> Answer {
+        self.out.extend(encode(&call));
+        self.station.call(&call)
+    }
+
+    fn grant(&mut self, count: u64, align: u64) -> Answer {
+        self.make(Call::Grant { area: 0, count, align })
+    }
+
+    /// Every grant of so many frames finds no run.
+    fn grants(mut self, count: u64, align: u64, times: u64) -> Vec<u8> {
+        for _ in 0..times {
+            assert_eq!(self.grant(count, align).refusal, 7);
+        }
+        self.out
+    }
+}
+
+/// Of each so many frames of the area (33 at most) the last has a pinned page and
+/// the others are free, so that of 33 frames side by side one cannot leave.
+pub fn past_pins(each: u64, grants: u64) -> Vec<u8> {
+    let mut day = Day::open();
+    let frames: Vec<u64> = (1..=FRAMES as u64).map(|name| day.make(Call::PutMovable { name }).first).collect();
+    for (name, frame) in (1..).zip(frames) {
+        match frame.checked_sub(day.first) {
+            Some(at) if at % each == each - 1 => day.make(Call::Pin { name }),
+            Some(_) => day.make(Call::Drop { name }),
+            None => continue,
+        };
+    }
+    day.grants(33, 0, grants)
+}
+
+/// Of each so many frames of the area the second is granted. Two are asked for, at
+/// multiples of 2^align; with two of each or such an alignment there are none.
+pub fn past_set_bits(each: u64, align: u64, grants: u64) -> Vec<u8> {
+    let mut day = Day::open();
+    let frames: Vec<u64> = (0..AREA_FRAMES).map(|_| day.grant(1, 0).first).collect();
+    for (at, &frame) in (0..).zip(&frames) {
+        if at % each != 1 {
+            day.make(Call::Release { area: 0, frame, count: 1 });
+        }
+    }
+    day.grants(2, align, grants)
+}
