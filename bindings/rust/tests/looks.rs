@@ -50,17 +50,18 @@ fn is_just(code: &str, slice: &str, parts: &[(&str, usize)], functions: &[(&str,
     often && !others && !indexed && functions.iter().all(|(function, times)| without(code, function).1 == *times)
 }
 
-/// A word is read at one place, and each function on the way there is called at one place of a step.
+/// A word is read at one place, and each function on the way there is called at one place of a step. No loop was added that would read again:
+/// there are that over the words, and one that looks at no word.
 fn reads_at_one_place(source: &str) -> bool {
     let parts = [("words: &[u64],", 5), ("words.len()", 3), ("look(words,", 1), ("passed_from(words,", 1), ("passed(words,", 2), (ONLY_READ, 1)];
-    is_just(&code(source), "words", &parts, &[("look(", 2), ("passed_from(", 2), ("passed(", 3)])
+    is_just(&code(source), "words", &parts, &[("look(", 2), ("passed_from(", 2), ("passed(", 3), ("while ", 2)])
 }
 
-/// The search hands its bitmap to each of the two steps at one place, and to functions of its own.
+/// The search hands its bitmap to each of the two steps at one place, and to functions of its own; its one loop is that over the candidates.
 fn only_hands_on(source: &str) -> bool {
     let own = [("bitmap: &[u64],", 4), ("try_run(marks, bitmap,", 1), ("clear_up_to(bitmap,", 1), ("bits_rule_out(bitmap,", 1)];
     let steps = [("next_open(bitmap,", 1), ("clear_bits(bitmap,", 1)];
-    is_just(&code(source), "bitmap", &[&own[..], &steps[..]].concat(), &[("next_open(", 1), ("clear_bits(", 1)])
+    is_just(&code(source), "bitmap", &[&own[..], &steps[..]].concat(), &[("next_open(", 1), ("clear_bits(", 1), ("while ", 1)])
 }
 
 #[test]
@@ -83,6 +84,7 @@ fn a_read_beside_it_is_seen() {
         ("// The only read of a word in a search.", "fn overlook(table: &[u64], at: usize) { let unseen = look(table, at, 0); }"),
         ("passed(words, start, from, count, 0,", "passed(words, start, from, count, 1, 0); passed(words, start, from, count, 0,"),
         ("let left = in_word(count - passed, low);", "let left = (words, at).0[at];"),
+        ("return passed_from(words, at,", "while again < 2 { again += 1; } return passed_from(words, at,"),
         ("// The only read of a word in a search.", "fn peek(table: &[u64], at: usize) -> u64 { table[at] }"),
     ];
     assert!(reads_at_one_place(&steps));
@@ -92,7 +94,12 @@ fn a_read_beside_it_is_seen() {
     }
     let search = source(SEARCH);
     assert!(only_hands_on(&search));
-    for (old, new) in [("if clear < end {", "if bitmap[0] == 0 {"), ("let next = set + 1;", "let next = peek(bitmap, set);")] {
+    let edits = [
+        ("if clear < end {", "if bitmap[0] == 0 {"),
+        ("let next = set + 1;", "let next = peek(bitmap, set);"),
+        ("let next = set + 1;", "while again < 9 { again += 1; } let next = set + 1;"),
+    ];
+    for (old, new) in edits {
         assert!(search.contains(old), "{old}");
         assert!(!only_hands_on(&search.replace(old, new)), "{new}");
     }
