@@ -8,6 +8,7 @@ use std::path::Path;
 /// Where the search's two steps are.
 const STEPS: &str = "crates/bitmap/src/looks.rt";
 const ONLY_READ: &str = "words[at]";
+const KEPT: &str = "let seen = look(words, at, looks); looks = seen.looks;";
 /// Where the search is, which has the words only to hand them on.
 const SEARCH: &str = "crates/device_calls/src/runs.rt";
 
@@ -50,18 +51,23 @@ fn is_just(code: &str, slice: &str, parts: &[(&str, usize)], functions: &[(&str,
     often && !others && !indexed && functions.iter().all(|(function, times)| without(code, function).1 == *times)
 }
 
-/// A word is read at one place, and each function on the way there is called at one place of a step. No loop was added that would read again:
-/// there are that over the words, and one that looks at no word.
+/// What could run a read once more than it is written: none stands in the two files but the loops that are counted below.
+const AGAIN: [(&str, usize); 4] = [("for ", 0), ("loop ", 0), ("continue", 0), ("while(", 0)];
+
+/// A word is read at one place, its count is kept at once, and each function on the way there is called at one place of a step. Two loops are
+/// written: that over the words, and one that looks at no word.
 fn reads_at_one_place(source: &str) -> bool {
-    let parts = [("words: &[u64],", 5), ("words.len()", 3), ("look(words,", 1), ("passed_from(words,", 1), ("passed(words,", 2), (ONLY_READ, 1)];
-    is_just(&code(source), "words", &parts, &[("look(", 2), ("passed_from(", 2), ("passed(", 3), ("while ", 2)])
+    let parts = [("words: &[u64],", 5), ("words.len()", 3), (KEPT, 1), ("passed_from(words,", 1), ("passed(words,", 2), (ONLY_READ, 1)];
+    let functions = [("look(", 2), ("passed_from(", 2), ("passed(", 3), ("while ", 2), ("while told <= reach - told", 1), ("while passed < count", 1)];
+    is_just(&code(source), "words", &parts, &[&functions[..], &AGAIN[..]].concat())
 }
 
 /// The search hands its bitmap to each of the two steps at one place, and to functions of its own; its one loop is that over the candidates.
 fn only_hands_on(source: &str) -> bool {
     let own = [("bitmap: &[u64],", 4), ("try_run(marks, bitmap,", 1), ("clear_up_to(bitmap,", 1), ("bits_rule_out(bitmap,", 1)];
     let steps = [("next_open(bitmap,", 1), ("clear_bits(bitmap,", 1)];
-    is_just(&code(source), "bitmap", &[&own[..], &steps[..]].concat(), &[("next_open(", 1), ("clear_bits(", 1), ("while ", 1)])
+    let functions = [("next_open(", 1), ("clear_bits(", 1), ("while ", 1), ("while j <= last", 1)];
+    is_just(&code(source), "bitmap", &[&own[..], &steps[..]].concat(), &[&functions[..], &AGAIN[..]].concat())
 }
 
 #[test]
@@ -85,6 +91,9 @@ fn a_read_beside_it_is_seen() {
         ("passed(words, start, from, count, 0,", "passed(words, start, from, count, 1, 0); passed(words, start, from, count, 0,"),
         ("let left = in_word(count - passed, low);", "let left = (words, at).0[at];"),
         ("return passed_from(words, at,", "while again < 2 { again += 1; } return passed_from(words, at,"),
+        ("let seen = look(words, at, looks);", "for again in 0..2 { let seen = look(words, at, looks); }"),
+        ("looks = seen.looks;", "if again { continue; } looks = seen.looks;"),
+        ("while told <= reach - told", "if told <= reach - told"),
         ("// The only read of a word in a search.", "fn peek(table: &[u64], at: usize) -> u64 { table[at] }"),
     ];
     assert!(reads_at_one_place(&steps));
