@@ -45,7 +45,7 @@ extern "C" {
 
 /* ---- the record ---- */
 
-#define SZK_RECORD_NUMBERS 28
+#define SZK_RECORD_NUMBERS 196   /* SZK_RECORD_AREAS + SZK_AREA_NUMBERS * SZK_MOST_AREAS */
 #define SZK_RECORD_BASE 0        /* P: the first physical frame */
 #define SZK_RECORD_FRAMES 1      /* n: how many frames there are */
 #define SZK_RECORD_BLOCK_ORDER 2 /* b: a block is 2^b frames */
@@ -68,16 +68,16 @@ extern "C" {
 
 #define SZK_PAGE_BYTES UINT64_C(4096)
 #define SZK_LEAST_FRAMES UINT64_C(1)             /* n */
-#define SZK_MOST_FRAMES UINT64_C(65536)          /* n */
+#define SZK_MOST_FRAMES UINT64_C(262144)         /* n */
 #define SZK_LEAST_BASE UINT64_C(1)               /* P */
 #define SZK_MOST_END UINT64_C(68719476736)       /* P + n: 2^36 */
 #define SZK_MOST_BLOCK_ORDER UINT64_C(10)        /* b */
-#define SZK_MOST_AREAS UINT64_C(8)
+#define SZK_MOST_AREAS UINT64_C(64)
 #define SZK_LEAST_NAME UINT64_C(1)
 #define SZK_MOST_NAME UINT64_C(536870911)        /* 2^29 - 1 */
 #define SZK_MOST_ALIGN_ORDER UINT64_C(16)        /* of a grant */
 #define SZK_MOST_BYTES UINT64_C(281474976710656) /* an amount of bytes: 2^48 */
-#define SZK_MOST_TEXT UINT64_C(1024)             /* bytes of a regions text */
+#define SZK_MOST_TEXT UINT64_C(8192)             /* bytes of a regions text */
 
 /* ---- marks: 8 x field + kind ---- */
 
@@ -102,7 +102,7 @@ extern "C" {
 #define SZK_NO_RUN UINT64_C(7)             /* no grantable run */
 #define SZK_NO_TARGET UINT64_C(8)          /* no target for its pages */
 #define SZK_RELEASE_DISAGREES UINT64_C(9)  /* release disagrees with the grant */
-#define SZK_AREAS_FULL UINT64_C(10)        /* eight areas already */
+#define SZK_AREAS_FULL UINT64_C(10)        /* 64 areas already */
 #define SZK_ORDER_OR_LIMIT UINT64_C(11)    /* k above b, or a limit that cannot be kept */
 #define SZK_RANGE_NOT_FREE UINT64_C(12)    /* fixed range not free */
 #define SZK_NO_PLACE UINT64_C(13)          /* no place for the area */
@@ -110,8 +110,8 @@ extern "C" {
 #define SZK_UNEXPECTED_BYTE UINT64_C(20)   /* text: a byte, or the end, that cannot continue */
 #define SZK_BAD_AMOUNT UINT64_C(21)        /* text: above 2^48, size 0, or a wrong alignment */
 #define SZK_NAME_REPEATED UINT64_C(22)     /* text: at a repeated name */
-#define SZK_TOO_MANY_REGIONS UINT64_C(23)  /* text: any byte after the eighth region's ';' */
-#define SZK_TEXT_TOO_LONG UINT64_C(24)     /* text: more than 1,024 bytes; the place is 1,024 */
+#define SZK_TOO_MANY_REGIONS UINT64_C(23)  /* text: any byte after the 64th region's ';' */
+#define SZK_TEXT_TOO_LONG UINT64_C(24)     /* text: more than 8,192 bytes; the place is 8,192 */
 #define SZK_UNKNOWN_ALLOCATOR UINT64_C(25) /* text: at an allocator other than "ff" */
 
 /* ---- boot and area declaration ---- */
@@ -127,7 +127,7 @@ extern "C" {
  *
  * Refused, with a place:
  *   SZK_WRONG_SHAPE (place 0) if base, frames, block_order or the length of marks or words is wrong;
- *   SZK_TEXT_TOO_LONG (place 1,024);
+ *   SZK_TEXT_TOO_LONG (place 8,192);
  *   SZK_UNEXPECTED_BYTE, SZK_BAD_AMOUNT, SZK_NAME_REPEATED, SZK_TOO_MANY_REGIONS or
  *     SZK_UNKNOWN_ALLOCATOR, whichever comes first from left to right, at its offset in the text;
  *   a refusal of szk_declare, with the region's index, from 0, as the place.

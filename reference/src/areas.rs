@@ -92,7 +92,7 @@ impl Machine {
     /// The checks of the request itself, up to the bitmap's.
     fn search_for(&self, request: &Request) -> Result<Search, u64> {
         if self.declared >= Machine::MAX_AREAS {
-            return Err(refusal::EIGHT_AREAS);
+            return Err(refusal::AREAS_FULL);
         }
         if !request.amounts_are_right() {
             return Err(refusal::ARGUMENT);

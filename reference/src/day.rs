@@ -9,6 +9,8 @@ use crate::Request;
 
 /// The areas of the day: how many frames each has, and k.
 const AREAS: [(u64, u64); 3] = [(512, 2), (256, 0), (128, 0)];
+/// The longest grant that is asked for, where the area has so many frames.
+const LONGEST: u64 = 24;
 /// Pages come until this many frames are in use, then go until so few are.
 const FULLEST: u64 = 2_010;
 const EMPTIEST: u64 = 1_800;
@@ -21,6 +23,7 @@ struct Grant {
 
 struct Day {
     rng: Rng,
+    areas: Vec<(u64, u64)>,
     station: Station,
     out: Vec<u8>,
     /// Names of the live pages that are not pinned, and of those that are.
@@ -43,7 +46,7 @@ impl Day {
 
     fn open(&mut self) {
         self.make(Call::Boot { base: 16, frames: FRAMES as u64, order: 4, text: Vec::new() });
-        for (frames, order) in AREAS {
+        for (frames, order) in self.areas.clone() {
             self.make(Call::Declare(Request { size: frames * PAGE, order, ..Request::default() }));
         }
     }
@@ -102,8 +105,8 @@ impl Day {
     }
 
     fn grant(&mut self) {
-        let area = self.rng.below(AREAS.len() as u64);
-        let count = self.rng.within(1, 24);
+        let area = self.rng.below(self.areas.len() as u64);
+        let count = self.rng.within(1, LONGEST.min(self.areas[area as usize].0));
         let align = self.rng.pick(&[0, 0, 0, 2, 4]);
         let answer = self.make(Call::Grant { area, count, align });
         if answer.refusal == 0 {
@@ -154,8 +157,19 @@ impl Day {
 /// The records of a day of at least `calls` calls, from a fixed seed: boot,
 /// declares and the first puts are among them.
 pub fn records(seed: u64, calls: u64) -> Vec<u8> {
+    records_with(AREAS.to_vec(), seed, calls)
+}
+
+/// Those of such a day with sixty areas of 16 frames, k 0 and 1 by turns.
+pub fn records_of_many_areas(seed: u64, calls: u64) -> Vec<u8> {
+    records_with((0..60).map(|i| (16, i % 2)).collect(), seed, calls)
+}
+
+fn records_with(areas: Vec<(u64, u64)>, seed: u64, calls: u64) -> Vec<u8> {
+    let mut made = 1 + areas.len() as u64;
     let mut day = Day {
         rng: Rng::new(seed),
+        areas,
         station: Station::new(),
         out: Vec::new(),
         pages: Vec::new(),
@@ -165,7 +179,6 @@ pub fn records(seed: u64, calls: u64) -> Vec<u8> {
         filling: true,
     };
     day.open();
-    let mut made = 1 + AREAS.len() as u64;
     while made < calls {
         if made < EMPTIEST {
             day.put();

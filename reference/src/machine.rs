@@ -16,7 +16,7 @@ pub mod refusal {
     pub const NO_RUN: u64 = 7;
     pub const NO_TARGET: u64 = 8;
     pub const RELEASE: u64 = 9;
-    pub const EIGHT_AREAS: u64 = 10;
+    pub const AREAS_FULL: u64 = 10;
     pub const ORDER_OR_LIMIT: u64 = 11;
     pub const NOT_FREE: u64 = 12;
     pub const NO_PLACE: u64 = 13;
@@ -24,7 +24,7 @@ pub mod refusal {
     pub const TEXT_BYTE: u64 = 20;
     pub const TEXT_NUMBER: u64 = 21;
     pub const TEXT_REPEATED: u64 = 22;
-    pub const TEXT_NINTH: u64 = 23;
+    pub const TEXT_REGIONS_FULL: u64 = 23;
     pub const TEXT_LONG: u64 = 24;
     pub const TEXT_ALLOCATOR: u64 = 25;
 }
@@ -49,7 +49,7 @@ pub fn field_of(mark: u32) -> u64 {
     u64::from(mark / 8)
 }
 
-/// Builds a mark. The field always fits: names have 29 bits, counts 17.
+/// Builds a mark. The field always fits: names have 29 bits, counts 19.
 pub fn mark_of(field: u64, kind: u32) -> u32 {
     (field as u32) * 8 + kind
 }
@@ -121,7 +121,7 @@ pub struct Machine {
     pub order: u64,
     /// How many of the area records are in use.
     pub declared: u64,
-    pub areas: [Area; 8],
+    pub areas: [Area; Machine::MAX_AREAS as usize],
 }
 
 /// The three tables lent to a call.
@@ -132,17 +132,18 @@ pub struct Tables<'a> {
 }
 
 impl Machine {
-    pub const MAX_FRAMES: u64 = 65_536;
+    pub const MAX_FRAMES: u64 = 262_144;
     pub const MAX_END: u64 = 1 << 36;
     pub const MAX_BLOCK_ORDER: u64 = 10;
-    pub const MAX_AREAS: u64 = 8;
+    pub const MAX_AREAS: u64 = 64;
     pub const MAX_NAME: u64 = 536_870_911;
     pub const MAX_ALIGN_ORDER: u64 = 16;
     pub const MAX_AMOUNT: u64 = 1 << 48;
 
     /// A fresh record is all zeros.
     pub fn fresh() -> Machine {
-        Machine { base: 0, frames: 0, order: 0, declared: 0, areas: [Area::default(); 8] }
+        let areas = [Area::default(); Machine::MAX_AREAS as usize];
+        Machine { base: 0, frames: 0, order: 0, declared: 0, areas }
     }
 
     /// One past the last physical frame. Only asked of a right shape.
@@ -150,7 +151,7 @@ impl Machine {
         self.base + self.frames
     }
 
-    /// The declared areas. Only asked when `declared` is at most 8.
+    /// The declared areas. Only asked when there are no more than can be.
     pub fn used_areas(&self) -> &[Area] {
         &self.areas[..self.declared as usize]
     }

@@ -2,7 +2,7 @@
 
 use crate::machine::{refusal, Machine};
 
-pub const MAX_TEXT: usize = 1024;
+pub const MAX_TEXT: usize = 8_192;
 pub const MAX_NAME_BYTES: usize = 16;
 
 /// One region of the text.
@@ -26,7 +26,7 @@ pub fn parse(text: &[u8]) -> Result<Vec<Region>, Refusal> {
     let mut regions: Vec<Region> = Vec::new();
     while reader.peek().is_some() {
         if regions.len() as u64 == Machine::MAX_AREAS {
-            return Err(reader.refuse(refusal::TEXT_NINTH, reader.at));
+            return Err(reader.refuse(refusal::TEXT_REGIONS_FULL, reader.at));
         }
         let region = reader.region(&regions)?;
         regions.push(region);

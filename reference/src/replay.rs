@@ -8,7 +8,7 @@ use std::io::{self, Read, Write};
 /// The program holds this many frames.
 pub const FRAMES: usize = 2048;
 /// The program lends this many bitmap words.
-pub const BITMAP_WORDS: usize = 40;
+pub const BITMAP_WORDS: usize = 96;
 /// The longest body: that of a declare.
 const LONGEST: usize = 34;
 

@@ -3,7 +3,8 @@
 
 use crate::calls::{Call, State};
 use crate::machine::{field_of, kind, kind_of, mark_of, Answer, Area, Machine, PAGE};
-use crate::replay::{decode, encode, Station};
+use crate::regions::MAX_TEXT;
+use crate::replay::{decode, encode, Station, BITMAP_WORDS};
 use crate::Request;
 
 /// The splitmix64 generator.
@@ -51,20 +52,50 @@ impl Rng {
 
 // ---- states ----
 
-fn block_order(rng: &mut Rng) -> u64 {
+/// How many frames and areas a machine is to have.
+#[derive(Clone, Copy)]
+enum Size {
+    /// A few frames, up to eight areas.
+    Small,
+    /// Some more frames, and most often as many areas as can be.
+    Crowded,
+    /// Up to the most frames and the most areas.
+    Large,
+}
+
+/// From so many frames on a machine is large. The reference is slow on it, so
+/// there are few of them, and few calls are made on each.
+const LARGE: u64 = 4_000;
+
+fn is_large(state: &State) -> bool {
+    state.marks.len() as u64 >= LARGE
+}
+
+fn some_size(rng: &mut Rng) -> Size {
+    match rng.below(1_000) {
+        0 => Size::Large,
+        1..=35 => Size::Crowded,
+        _ => Size::Small,
+    }
+}
+
+fn block_order(rng: &mut Rng, size: Size) -> u64 {
     match rng.below(100) {
+        0..=84 if matches!(size, Size::Crowded) => 0,
         0..=74 => rng.below(3),
         75..=95 => rng.within(3, 5),
         _ => rng.within(6, 10),
     }
 }
 
-fn frame_count(rng: &mut Rng) -> u64 {
-    match rng.below(100) {
-        0..=89 => rng.within(1, 72),
-        90..=98 => rng.within(60, 300),
-        _ if rng.percent(10) => Machine::MAX_FRAMES,
-        _ => rng.within(300, 3000),
+fn frame_count(rng: &mut Rng, size: Size) -> u64 {
+    match (size, rng.below(100)) {
+        (Size::Small, 0..=89) => rng.within(1, 72),
+        (Size::Small, 90..=98) => rng.within(60, 300),
+        (Size::Small, _) => rng.within(300, 3_000),
+        (Size::Crowded, _) => rng.within(90, 200),
+        (Size::Large, 0..=49) => Machine::MAX_FRAMES,
+        (Size::Large, _) => rng.within(LARGE, Machine::MAX_FRAMES),
     }
 }
 
@@ -80,15 +111,27 @@ fn first_frame(rng: &mut Rng, frames: u64) -> u64 {
     }
 }
 
+/// How many areas there are to be, how many of a hundred follow the one before
+/// without a gap, and how many blocks the longest has.
+fn area_plan(rng: &mut Rng, size: Size, blocks: u64) -> (u64, u64, u64) {
+    match size {
+        Size::Small => (rng.pick(&[0, 1, 1, 2, 3, 8, 8]), 50, rng.pick(&[1, 2, 4, 16, 80])),
+        Size::Crowded => (rng.pick(&[30, 63, 64, 64, 64]), 90, rng.pick(&[1, 1, 2])),
+        Size::Large => {
+            let wanted = rng.pick(&[1, 2, 8, 64, 64]);
+            (wanted, 70, (2 * blocks / wanted).max(1))
+        }
+    }
+}
+
 /// Disjoint areas on whole blocks, in any order.
-fn add_areas(rng: &mut Rng, machine: &mut Machine) {
+fn add_areas(rng: &mut Rng, machine: &mut Machine, size: Size) {
     let block = 1 << machine.order;
     let mut next = machine.base.div_ceil(block);
     let last = machine.end() / block;
-    let wanted = rng.pick(&[0, 1, 1, 2, 3, 8, 8]);
-    let longest = rng.pick(&[1, 2, 4, 16, 80]);
+    let (wanted, close, longest) = area_plan(rng, size, machine.frames / block);
     while machine.declared < wanted {
-        next += if rng.percent(50) { 0 } else { rng.below(4) };
+        next += if rng.percent(close) { 0 } else { rng.below(4) };
         if next >= last {
             break;
         }
@@ -156,13 +199,15 @@ fn plant_grant(rng: &mut Rng, state: &mut State) {
 /// A state of right shape with arbitrary tables: names may stand twice, kinds
 /// 6 and 7 occur, and bits need not agree with marks.
 pub fn right_state(rng: &mut Rng) -> State {
-    let frames = frame_count(rng);
+    let size = some_size(rng);
+    let frames = frame_count(rng, size);
     let base = first_frame(rng, frames);
-    let mut machine = Machine { base, frames, order: block_order(rng), ..Machine::fresh() };
-    add_areas(rng, &mut machine);
+    let mut machine = Machine { base, frames, order: block_order(rng, size), ..Machine::fresh() };
+    add_areas(rng, &mut machine, size);
     fill_unused_areas(rng, &mut machine);
-    let style = rng.below(8);
-    let bitmap_style = rng.below(7);
+    // Half of the large ones are free, but for planted grants, so that whole areas can be granted.
+    let is_free = matches!(size, Size::Large) && rng.percent(50);
+    let (style, bitmap_style) = if is_free { (0, 0) } else { (rng.below(8), rng.below(7)) };
     let bitmap_len = machine.bitmap_words() + rng.below(4);
     let mut state = State {
         machine,
@@ -196,9 +241,9 @@ fn break_record(rng: &mut Rng, state: &mut State, fault: u64) {
         1 => m.base = Machine::MAX_END - m.frames + 1 + rng.below(9),
         2 => m.base = u64::MAX - rng.below(m.frames + 2),
         3 => m.frames = 0,
-        4 => m.frames = rng.pick(&[65_537, 1 << 36, 1 << 63, u64::MAX]),
+        4 => m.frames = rng.pick(&[Machine::MAX_FRAMES + 1, 1 << 36, 1 << 63, u64::MAX]),
         5 => m.order = rng.pick(&[11, 12, 63, 64, 65, 1 << 32, u64::MAX]),
-        6 => m.declared = rng.pick(&[9, 10, 1 << 32, 1 << 63, u64::MAX]),
+        6 => m.declared = rng.pick(&[65, 66, 1 << 32, 1 << 63, u64::MAX]),
         7 => change_length(rng, &mut state.marks),
         8 => change_length(rng, &mut state.words),
         _ => m.frames += 1,
@@ -252,7 +297,7 @@ fn extreme_machine(rng: &mut Rng) -> Machine {
         frames: rng.extreme(),
         order: rng.extreme(),
         declared: rng.extreme(),
-        areas: [(); 8].map(|()| Area { base: rng.extreme(), count: rng.extreme(), order: rng.extreme() }),
+        areas: [(); Machine::MAX_AREAS as usize].map(|()| Area { base: rng.extreme(), count: rng.extreme(), order: rng.extreme() }),
     }
 }
 
@@ -363,23 +408,32 @@ pub fn text(rng: &mut Rng, state: &State) -> Vec<u8> {
         }
         13 => plain_regions(rng),
         14 => near_regions(rng, state),
-        15 => {
-            let length = rng.within(1020, 1028) as usize;
-            let mut text = b"a=4096".repeat(180);
-            text.truncate(length);
-            text
-        }
+        15 => long_text(rng),
         16 => (0..rng.below(40)).map(|_| rng.next() as u8).collect(),
         _ => (0..rng.within(1, 12)).map(|_| rng.pick(b"ab=@/:;0178xfFKmg-")).collect(),
     }
 }
 
-/// Seven to ten small regions, often with a byte too many at the end.
+/// Small regions, most often about as many as can be, and often with a byte
+/// too many at the end.
 fn plain_regions(rng: &mut Rng) -> Vec<u8> {
-    let count = rng.within(7, 10);
+    let count = rng.pick(&[9, 62, 63, 64, 64, 64, 65, 66]);
     let regions: Vec<String> = (0..count).map(|i| format!("r{i}=1")).collect();
     let tail = rng.pick(&["", "", ";", ";;", ";!", ";a"]);
     (regions.join(";") + tail).into_bytes()
+}
+
+/// A text about as long as can be. Half of them are wrong early; the others
+/// are regions, up to one more than can be, filled up with zeros.
+fn long_text(rng: &mut Rng) -> Vec<u8> {
+    let length = rng.within(MAX_TEXT as u64 - 4, MAX_TEXT as u64 + 4) as usize;
+    if rng.percent(50) {
+        return b"a=4096".iter().copied().cycle().take(length).collect();
+    }
+    let count = rng.within(1, 65) as usize;
+    let digits = length / count - 8;
+    let later: String = (1..count).map(|i| format!(";r{i}={:0>digits$}", 1)).collect();
+    format!("r0={:0>width$}{later}", 1, width = length - 3 - later.len()).into_bytes()
 }
 
 /// Two or three small fixed regions that lie close together.
@@ -441,19 +495,23 @@ fn some_frame(rng: &mut Rng, state: &State) -> u64 {
 
 fn some_area(rng: &mut Rng, state: &State) -> u64 {
     match rng.below(100) {
-        0..=93 => rng.below(state.machine.declared.clamp(1, 8)),
+        0..=93 => rng.below(state.machine.declared.clamp(1, Machine::MAX_AREAS)),
         94..=97 => state.machine.declared,
         _ => rng.extreme(),
     }
 }
 
-fn some_count(rng: &mut Rng, state: &State) -> u64 {
-    let area = state.machine.areas[rng.below(8) as usize];
+/// A count that is small, or about that of the area, or any. The reference
+/// tries every start of a run anew, so on a large machine it is not any.
+fn some_count(rng: &mut Rng, state: &State, area: u64) -> u64 {
+    let whole = state.machine.areas.get(area as usize).map_or(0, |area| area.count);
     match rng.below(100) {
+        0..=59 if is_large(state) => whole - whole.min(rng.below(3) / 2),
         0..=69 => rng.within(1, 6),
         70..=84 => rng.within(1, 40),
-        85..=93 => area.count.wrapping_add(rng.below(3)).wrapping_sub(1),
+        85..=93 => whole.wrapping_add(rng.below(3)).wrapping_sub(1),
         94 => 0,
+        _ if is_large(state) => u64::MAX,
         _ => rng.extreme(),
     }
 }
@@ -549,6 +607,8 @@ fn some_request(rng: &mut Rng, state: &State) -> Request {
             0..=69 => rng.within(1, 3 * block),
             70..=92 => rng.within(1, 24) * block,
             93 => 0,
+            // The reference looks at every place anew.
+            _ if is_large(state) => rng.pick(&[Machine::MAX_AMOUNT, u64::MAX]),
             _ => rng.extreme(),
         },
         limit: 0,
@@ -563,20 +623,25 @@ fn some_request(rng: &mut Rng, state: &State) -> Request {
     Request { limit: some_limit(rng, state, &request), ..request }
 }
 
+fn some_grant_call(rng: &mut Rng, state: &State) -> Call {
+    let area = some_area(rng, state);
+    Call::Grant { area, count: some_count(rng, state, area), align: some_align(rng) }
+}
+
 fn some_release(rng: &mut Rng, state: &State) -> Call {
     let (mut frame, mut count) = match some_grant(rng, state) {
         Some(found) => found,
-        None => (some_frame(rng, state), some_count(rng, state)),
+        None => (some_frame(rng, state), some_count(rng, state, 0)),
     };
     match rng.below(20) {
         0 => frame = frame.wrapping_add(1),
         1 => frame = some_frame(rng, state),
         2 => count = count.wrapping_add(1),
         3 => count = count.wrapping_sub(1),
-        4 => count = some_count(rng, state),
+        4 => count = some_count(rng, state, 0),
         _ => {}
     }
-    let used = state.machine.declared.min(8) as usize;
+    let used = state.machine.declared.min(Machine::MAX_AREAS) as usize;
     let holder = state.machine.areas[..used].iter().position(|a| frame.wrapping_sub(a.base) < a.count);
     let area = match holder {
         Some(index) if rng.percent(92) => index as u64,
@@ -589,7 +654,7 @@ fn some_boot(rng: &mut Rng, state: &State) -> Call {
     let n = state.marks.len() as u64;
     let mut base = if rng.percent(60) { state.machine.base } else { first_frame(rng, n) };
     let mut frames = n;
-    let mut order = if rng.percent(60) { state.machine.order } else { block_order(rng) };
+    let mut order = if rng.percent(60) { state.machine.order } else { block_order(rng, Size::Small) };
     match rng.below(40) {
         0 => base = rng.extreme(),
         1 => base = Machine::MAX_END - n + 1,
@@ -609,6 +674,8 @@ pub fn call(rng: &mut Rng, state: &State) -> Call {
         7..=46 => Call::PutMovable { name: some_name(rng, state) },
         47..=56 => Call::PutFixed { name: some_name(rng, state) },
         57..=70 => Call::Drop { name: some_name(rng, state) },
+        // A large machine has few calls, and more of them are grants.
+        71..=106 if is_large(state) && rng.percent(60) => some_grant_call(rng, state),
         71..=82 => Call::Pin { name: some_name(rng, state) },
         83..=94 => Call::Unpin { name: some_name(rng, state) },
         95..=106 => Call::Store { name: some_name(rng, state), word: rng.next() },
@@ -617,11 +684,7 @@ pub fn call(rng: &mut Rng, state: &State) -> Call {
         121..=164 if state.machine.declared == 0 && rng.percent(70) => {
             Call::Declare(some_request(rng, state))
         }
-        121..=146 => Call::Grant {
-            area: some_area(rng, state),
-            count: some_count(rng, state),
-            align: some_align(rng),
-        },
+        121..=146 => some_grant_call(rng, state),
         147..=164 => some_release(rng, state),
         165..=176 => Call::DeviceStore { frame: some_frame(rng, state), word: rng.next() },
         177..=188 => Call::DeviceRead { frame: some_frame(rng, state) },
@@ -664,17 +727,49 @@ pub fn possible_pairs() -> Vec<(u8, u64)> {
     POSSIBLE.iter().enumerate().flat_map(pairs).collect()
 }
 
-/// A fresh record with clean tables and a boot that fits them.
+/// A fresh record with clean tables and a boot that fits them; never a large
+/// machine.
 pub fn boot_start(rng: &mut Rng) -> (State, Call) {
-    let frames = frame_count(rng);
-    let bitmap_len = rng.pick(&[0, 1, 8, 40]);
+    let size = if rng.percent(2) { Size::Crowded } else { Size::Small };
+    sized_boot_start(rng, size)
+}
+
+/// The same of a large machine.
+pub fn large_boot_start(rng: &mut Rng) -> (State, Call) {
+    sized_boot_start(rng, Size::Large)
+}
+
+fn sized_boot_start(rng: &mut Rng, size: Size) -> (State, Call) {
+    let frames = frame_count(rng, size);
+    let bitmap_len = match size {
+        Size::Small => rng.pick(&[0, 1, 8, 40, BITMAP_WORDS]),
+        Size::Crowded => rng.pick(&[63, 64, BITMAP_WORDS]),
+        Size::Large => rng.pick(&[BITMAP_WORDS, frames as usize / 64 + 64, frames as usize / 64 + 64]),
+    };
     let mut state = State::fresh(frames as usize, bitmap_len);
     state.marks.iter_mut().for_each(|mark| *mark = rng.next() as u32);
     let base = first_frame(rng, frames);
-    let order = block_order(rng);
+    let order = block_order(rng, size);
     let shaped = Machine { base, frames, order, ..Machine::fresh() };
-    let text = text(rng, &State { machine: shaped, ..state.clone() });
+    let text = match size {
+        Size::Small => text(rng, &State { machine: shaped, ..state.clone() }),
+        Size::Crowded => plain_regions(rng),
+        Size::Large => large_regions(rng, &shaped),
+    };
     (state, Call::Boot { base, frames, order, text })
+}
+
+/// Regions that share the frames of a large machine, each where it must begin:
+/// the reference would look at every place anew.
+fn large_regions(rng: &mut Rng, machine: &Machine) -> Vec<u8> {
+    let block = PAGE << machine.order;
+    let count = rng.pick(&[1, 2, 64]);
+    let first = (machine.base * PAGE).div_ceil(block) * block;
+    let size = (machine.frames * PAGE / count / block).max(1) * block;
+    let mut number = |value| some_text_number(rng, value);
+    let regions: Vec<String> =
+        (0..count).map(|i| format!("r{i}={}@{}", number(size), number(first + i * size))).collect();
+    regions.join(";").into_bytes()
 }
 
 /// Told of each call: the state before, the call, the state after, the answer.
@@ -711,10 +806,14 @@ pub fn run(seed: u64, calls: u64, observe: &mut Observer) {
             0..=29 => (wrong_state(&mut rng), None, 6),
             30..=84 => (right_state(&mut rng), None, 30),
             _ => {
-                let (state, boot) = boot_start(&mut rng);
+                let (state, boot) = match rng.below(250) {
+                    0 => large_boot_start(&mut rng),
+                    _ => boot_start(&mut rng),
+                };
                 (state, Some(boot), 300)
             }
         };
+        let longest = if is_large(&state) { 6 } else { longest };
         if let Some(boot) = opening {
             left -= open(&mut rng, &mut state, boot, left, observe);
         }

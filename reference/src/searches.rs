@@ -1,6 +1,6 @@
-//! Days of grants that search an area of 1,024 frames to its end and find no
-//! run: those in which pinned pages stand in the way, and those in which set bits
-//! do.
+//! Days that are all search: grants that search an area of 1,024 frames to its end
+//! and find no run, since pinned pages stand in the way or set bits do; and puts
+//! that pass many areas.
 
 use crate::calls::Call;
 use crate::machine::{Answer, PAGE};
@@ -69,4 +69,25 @@ pub fn past_set_bits(each: u64, align: u64, grants: u64) -> Vec<u8> {
         }
     }
     day.grants(2, align, grants)
+}
+
+/// Puts past sixty areas of one frame, declared in mixed order, and the single
+/// ordinary frames between them, which are used; each page is dropped again.
+pub fn past_areas(puts: u64) -> Vec<u8> {
+    const AREAS: u64 = 60;
+    let mut day = Day { station: Station::new(), out: Vec::new(), first: 0 };
+    day.make(Call::Boot { base: 1, frames: FRAMES as u64, order: 0, text: Vec::new() });
+    for i in 0..AREAS {
+        let frame = 2 + 2 * (i * 37 % AREAS);
+        let request = Request { base: frame * PAGE, size: PAGE, fixed: true, ..Request::default() };
+        assert_eq!(day.make(Call::Declare(request)).first, frame);
+    }
+    for name in 1..=AREAS {
+        assert_eq!(day.make(Call::PutFixed { name }).first, 2 * name - 1);
+    }
+    for name in (AREAS + 1..).take(puts as usize) {
+        assert_eq!(day.make(Call::PutMovable { name }).first, 2 * AREAS + 1);
+        day.make(Call::Drop { name });
+    }
+    day.out
 }

@@ -2,7 +2,7 @@
 
 use reference::machine::mark_of;
 use reference::regions::parse;
-use reference::replay::{body_length, encode, replay};
+use reference::replay::{body_length, encode, replay, Station};
 use reference::{Answer, Area, Call, Machine, Request, State};
 
 const PAGE: u64 = 4096;
@@ -45,10 +45,10 @@ fn boot_numbers() {
         (top - 1, 1, 0, 0),
         (top, 1, 0, 1),
         (u64::MAX, 1, 0, 1),
-        (1, 65_536, 10, 0),
-        (1, 65_537, 0, 1),
-        (top - 65_536, 65_536, 0, 0),
-        (top - 65_535, 65_536, 0, 1),
+        (1, 262_144, 10, 0),
+        (1, 262_145, 0, 1),
+        (top - 262_144, 262_144, 0, 0),
+        (top - 262_143, 262_144, 0, 1),
         (1, 0, 0, 1),
         (1, 4, 11, 1),
         (1, 4, u64::MAX, 1),
@@ -106,7 +106,7 @@ fn shapes_that_are_wrong() {
     assert_eq!(shape_after(|s| s.machine.frames = 31), 1);
     assert_eq!(shape_after(|s| s.machine.order = 11), 1);
     assert_eq!(shape_after(|s| s.machine.declared = 3), 1);
-    assert_eq!(shape_after(|s| s.machine.declared = 9), 1);
+    assert_eq!(shape_after(|s| s.machine.declared = 65), 1);
     assert_eq!(shape_after(|s| s.machine.declared = u64::MAX), 1);
     assert_eq!(shape_after(|s| s.marks.push(0)), 1);
     assert_eq!(shape_after(|s| s.words.truncate(31)), 1);
@@ -310,15 +310,43 @@ fn declare_orders_its_checks() {
 }
 
 #[test]
-fn declare_at_eight_areas() {
-    let mut state = State::fresh(32, 8);
-    ask(&mut state, boot(1, 32, 0));
-    for area in 0..8 {
+fn declare_at_64_areas() {
+    let mut state = State::fresh(100, 64);
+    ask(&mut state, boot(1, 100, 0));
+    for area in 0..64 {
         let one = Call::Declare(request(0, 1, 0, 0));
-        assert_eq!(ask(&mut state, one), (0, 32 - area, 1));
+        assert_eq!(ask(&mut state, one), (0, 100 - area, 1));
     }
     assert_eq!(declare(&state, request(0, 0, u64::MAX, 3)).0, 10);
     assert_eq!(declare(&state, request(0, 1, 1, 0)).0, 10);
+    // The last area has a bit and a grant of its own.
+    assert_eq!(ask(&mut state, Call::Grant { area: 64, count: 1, align: 0 }), (2, 0, 0));
+    assert_eq!(ask(&mut state, Call::Grant { area: 63, count: 1, align: 0 }), (0, 37, 0));
+    assert_eq!((state.bitmap[62], state.bitmap[63]), (0, 1));
+}
+
+/// 64 areas are the right shape, if they are apart and the bitmap has their words.
+#[test]
+fn shapes_of_64_areas() {
+    let mut state = State::fresh(64, 64);
+    (state.machine.base, state.machine.frames, state.machine.declared) = (1, 64, 64);
+    for (i, area) in state.machine.areas.iter_mut().enumerate() {
+        *area = Area { base: 64 - i as u64, count: 1, order: 0 };
+    }
+    assert!(state.shape_is_right());
+    let says = |change: fn(&mut State)| {
+        let mut changed = state.clone();
+        change(&mut changed);
+        changed.shape_is_right()
+    };
+    assert!(says(|s| s.bitmap.push(0)));
+    assert!(says(|s| s.machine.declared = 63));
+    assert!(!says(|s| s.bitmap.truncate(63)));
+    assert!(!says(|s| s.machine.declared = 65));
+    assert!(!says(|s| s.machine.areas[63].base = 2));
+    assert!(!says(|s| s.machine.areas[63].count = 2));
+    assert!(!says(|s| s.machine.areas[63].count = 0));
+    assert!(!says(|s| s.machine.areas[63].order = 1));
 }
 
 /// What a declare of one byte answers, by its limit and its alignment.
@@ -575,21 +603,42 @@ fn text_parts() {
     assert_eq!(refused(b"a=1;b"), (20, 5));
 }
 
+/// Regions `r10=1`, `r11=1` and so on, with `;` between them.
+fn regions(count: usize) -> Vec<u8> {
+    let each: Vec<String> = (10..10 + count).map(|i| format!("r{i}=1")).collect();
+    each.join(";").into_bytes()
+}
+
+#[test]
+fn text_regions() {
+    let with = |tail: &[u8]| [&regions(64), tail].concat();
+    // 64 of five bytes, and a `;` between each two of them.
+    assert_eq!(with(b"").len(), 383);
+    assert_eq!(parse(&with(b"")).unwrap().len(), 64);
+    assert_eq!(parse(&with(b";")).unwrap().len(), 64);
+    assert_eq!(refused(&with(b";i=1")), (23, 384));
+    assert_eq!(refused(&with(b";r10")), (23, 384));
+    assert_eq!(refused(&with(b";;")), (23, 384));
+    assert_eq!(refused(&with(b"!")), (20, 383));
+    assert_eq!(refused(&regions(65)), (23, 384));
+    assert_eq!(refused(&[regions(63), b";r10=1".to_vec()].concat()), (22, 378));
+    assert_eq!(refused(&[regions(63), b";;".to_vec()].concat()), (20, 378));
+}
+
 #[test]
 fn text_lengths() {
-    let eight = b"a=1;b=1;c=1;d=1;e=1;f=1;g=1;h=1".to_vec();
-    let with = |tail: &[u8]| [&eight[..], tail].concat();
-    assert_eq!(parse(&eight).unwrap().len(), 8);
-    assert_eq!(parse(&with(b";")).unwrap().len(), 8);
-    assert_eq!(refused(&with(b";i=1")), (23, 32));
-    assert_eq!(refused(&with(b";a")), (23, 32));
-    assert_eq!(refused(&with(b";;")), (23, 32));
-    assert_eq!(refused(&with(b"!")), (20, 31));
     let padded = |length: usize| [b"a=".to_vec(), vec![b'0'; length - 3], b"1".to_vec()].concat();
-    assert_eq!(parse(&padded(1024)).unwrap()[0].size, 1);
-    assert_eq!(refused(&padded(1025)), (24, 1024));
-    assert_eq!(refused(&[b'!'; 1025]), (24, 1024));
-    assert_eq!(refused(&[b'!'; 1024]), (20, 0));
+    assert_eq!(parse(&padded(8192)).unwrap()[0].size, 1);
+    assert_eq!(refused(&padded(8193)), (24, 8192));
+    assert_eq!(refused(&[b'!'; 8193]), (24, 8192));
+    assert_eq!(refused(&[b'!'; 8192]), (20, 0));
+    // Too long is judged before too many regions.
+    let with = |tail: &[u8], length: usize| [&regions(64), tail, &vec![b'0'; length - 383 - tail.len()]].concat();
+    assert_eq!(refused(&with(b";z=1", 8192)), (23, 384));
+    assert_eq!(refused(&with(b";z=1", 8193)), (24, 8192));
+    // The last region's number may end with the text.
+    let filled = [regions(63), b";z=1".to_vec(), vec![b'0'; 8192 - 381]].concat();
+    assert_eq!((filled.len(), refused(&filled)), (8192, (21, 380)));
 }
 
 #[test]
@@ -656,10 +705,27 @@ fn replay_frames() {
 }
 
 #[test]
-fn replay_lends_forty_bitmap_words() {
+fn replay_lends_96_bitmap_words() {
     let size = |frames: u64| Call::Declare(Request { fixed: true, ..request(PAGE, frames * PAGE, 0, 0) });
-    let text = output_of(&stream(&[boot(1, 2048, 0), size(2561), size(2560), size(2048)]));
+    let text = output_of(&stream(&[boot(1, 2048, 0), size(6145), size(6144), size(2048)]));
     assert!(text.ends_with("1 14 0 0\n2 13 0 0\n3 0 1 2048\nend 4\n"));
+}
+
+/// 64 areas of all 2,048 frames that need as many words as can be: 95.
+#[test]
+fn replay_has_words_for_64_areas() {
+    let mut station = Station::new();
+    assert_eq!(station.call(&boot(1, 2048, 0)).refusal, 0);
+    for _ in 0..63 {
+        assert_eq!(station.call(&Call::Declare(request(0, 1, 0, 0))).refusal, 0);
+    }
+    // 32 words more are 95, and have no room; 33 are 96; 34 are 97.
+    let rest = |frames: u64| Call::Declare(request(0, frames * PAGE, 0, 0));
+    assert_eq!(station.call(&rest(2048)).refusal, 13);
+    assert_eq!(station.call(&rest(33 * 64)).refusal, 13);
+    assert_eq!(station.call(&rest(33 * 64 + 1)).refusal, 14);
+    assert_eq!(station.call(&rest(1985)), Answer::new(0, 1, 1985));
+    assert_eq!(station.view().machine.bitmap_words(), 95);
 }
 
 #[test]
@@ -695,14 +761,35 @@ fn replay_record_bytes() {
 
 #[test]
 fn the_largest_machine() {
-    let mut state = State::fresh(65_536, 1024);
-    let text = b"a=128M:ff;b=128M".to_vec();
-    let base = (1 << 36) - 65_536;
-    assert_eq!(ask(&mut state, Call::Boot { base, frames: 65_536, order: 10, text }), (0, 0, 0));
-    assert_eq!(ask(&mut state, Call::Grant { area: 1, count: 32_768, align: 16 }), (0, base, 0));
-    assert_eq!(ask(&mut state, Call::Grant { area: 0, count: 32_768, align: 15 }), (0, base + 32_768, 0));
+    let mut state = State::fresh(262_144, 4096);
+    let text = b"a=512M:ff;b=512M".to_vec();
+    let half = 131_072;
+    let base = (1 << 36) - 2 * half;
+    assert_eq!(ask(&mut state, Call::Boot { base, frames: 2 * half, order: 10, text }), (0, 0, 0));
+    assert_eq!(ask(&mut state, Call::Grant { area: 1, count: half, align: 16 }), (0, base, 0));
+    assert_eq!(ask(&mut state, Call::Grant { area: 0, count: half, align: 15 }), (0, base + half, 0));
     assert_eq!(ask(&mut state, Call::PutMovable { name: 1 }), (6, 0, 0));
-    let release = Call::Release { area: 0, frame: base + 32_768, count: 32_768 };
+    let release = Call::Release { area: 0, frame: base + half, count: half };
     assert_eq!(ask(&mut state, release), (0, 0, 0));
-    assert_eq!(ask(&mut state, Call::PutMovable { name: 1 }), (0, base + 32_768, 0));
+    assert_eq!(ask(&mut state, Call::PutMovable { name: 1 }), (0, base + half, 0));
+}
+
+#[test]
+fn the_largest_grant() {
+    let all = 262_144;
+    let base = (1 << 36) - all;
+    let mut state = State::fresh(all as usize, 4096);
+    assert_eq!(ask(&mut state, Call::Boot { base, frames: all, order: 0, text: b"a=1G".to_vec() }), (0, 0, 0));
+    assert_eq!(state.machine.areas[0], Area { base, count: all, order: 0 });
+    assert_eq!(refusal(&state, Call::Grant { area: 0, count: all + 1, align: 0 }), 7);
+    assert_eq!(ask(&mut state, Call::Grant { area: 0, count: all, align: 16 }), (0, base, 0));
+    assert_eq!((state.marks[0], state.marks[1], state.bitmap[4095]), (8 * 262_144 + 4, 5, u64::MAX));
+    let last = (1 << 36) - 1;
+    assert_eq!(ask(&mut state, Call::DeviceStore { frame: last, word: 9 }), (0, 0, 0));
+    assert_eq!(ask(&mut state, Call::DeviceRead { frame: last }), (0, 9, 0));
+    assert_eq!(ask(&mut state, Call::DeviceRead { frame: last + 1 }), (2, 0, 0));
+    assert_eq!(refusal(&state, Call::Release { area: 0, frame: base, count: all - 1 }), 9);
+    assert_eq!(ask(&mut state, Call::Release { area: 0, frame: base, count: all }), (0, 0, 0));
+    assert!(state.marks.iter().all(|&mark| mark == 0) && state.bitmap.iter().all(|&word| word == 0));
+    assert_eq!(state.words[262_143], 0);
 }

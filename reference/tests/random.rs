@@ -59,7 +59,7 @@ fn every_fault_makes_a_wrong_shape() {
 #[test]
 fn the_tables_are_as_odd_as_they_should_be() {
     let mut rng = Rng::new(4);
-    let (mut twice, mut unused_kinds, mut eight) = (0, 0, 0);
+    let (mut twice, mut unused_kinds, mut full) = (0, 0, 0);
     for _ in 0..2000 {
         let state = right_state(&mut rng);
         let mut pages: Vec<u32> =
@@ -69,9 +69,42 @@ fn the_tables_are_as_odd_as_they_should_be() {
         pages.dedup();
         twice += u32::from(pages.len() < all);
         unused_kinds += u32::from(state.marks.iter().any(|&m| kind_of(m) > kind::GRANT_LATER));
-        eight += u32::from(state.machine.declared == 8);
+        full += u32::from(state.machine.declared == 64);
     }
-    assert!(twice > 200 && unused_kinds > 200 && eight > 100, "{twice} {unused_kinds} {eight}");
+    assert!(twice > 200 && unused_kinds > 200 && full > 20, "{twice} {unused_kinds} {full}");
+}
+
+/// Seldom, but not never: the most frames, the most areas, and texts about as long as can be.
+#[test]
+fn large_and_crowded_machines_occur() {
+    let mut seen: BTreeMap<&str, u64> = BTreeMap::new();
+    run(13, CALLS, &mut |before, call, after, answer| {
+        let is_done = answer.refusal == 0;
+        let machine = &before.machine;
+        let mut count = |what, holds: bool| *seen.entry(what).or_default() += u64::from(holds);
+        count("262,144 frames", before.marks.len() == 262_144 && answer.refusal != 1);
+        count("64 areas", machine.declared == 64 && answer.refusal != 1);
+        count("more than 8 areas in more than 65,536 frames", machine.frames > 65_536 && machine.declared > 8 && is_done);
+        match call {
+            Call::Boot { text, .. } => {
+                count("a boot of 64 areas", is_done && after.machine.declared == 64);
+                count("a boot with a long text", is_done && text.len() > 8_000);
+                count("8,192 bytes", text.len() == 8_192 && ![1, 24].contains(&answer.refusal));
+                count("8,193 bytes", text.len() == 8_193 && answer.refusal == 24);
+            }
+            Call::Declare(_) => {
+                count("a 64th declared", is_done && after.machine.declared == 64);
+                count("a 65th refused", answer.refusal == 10);
+            }
+            Call::Grant { area, count: frames, .. } => {
+                count("a grant in a late area", is_done && *area >= 8);
+                count("a grant of more than 2,048 frames", is_done && *frames > 2_048);
+            }
+            _ => {}
+        }
+    });
+    println!("{seen:?}");
+    assert!(seen.len() == 11 && seen.values().all(|&times| times > 0), "{seen:?}");
 }
 
 #[test]
@@ -128,7 +161,7 @@ fn side_of_limit(end: u64, step: u64, limit: u64) -> &'static str {
 #[test]
 fn fixed_ranges_on_both_sides_of_the_limit_occur() {
     let mut seen: BTreeMap<(&str, &str), u64> = BTreeMap::new();
-    judged_declares(12, 800_000, &mut |before, request, step, answer| {
+    judged_declares(12, 1_000_000, &mut |before, request, step, answer| {
         let small = request.limit != 0 && request.limit < step;
         if !request.fixed || request.base == 0 || request.order > before.machine.order || small {
             return;

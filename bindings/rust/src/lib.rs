@@ -52,8 +52,11 @@ pub struct Machine {
 }
 
 impl Machine {
+    /// How many area records there are.
+    pub const AREAS: usize = 64;
+
     /// Numbers of a record: the base, the frames, the order, the areas declared, and three for each area.
-    pub const NUMBERS: usize = 28;
+    pub const NUMBERS: usize = 4 + 3 * Machine::AREAS;
 
     /// A fresh record is all zeros; every call but boot refuses it.
     pub const fn fresh() -> Machine {
@@ -80,8 +83,8 @@ impl Machine {
         self.numbers[3]
     }
 
-    /// The eight area records, those in use first.
-    pub fn areas(&self) -> [Area; 8] {
+    /// All area records, those in use first.
+    pub fn areas(&self) -> [Area; Machine::AREAS] {
         let at = |i: usize| 4 + 3 * i;
         std::array::from_fn(|i| Area {
             base: self.numbers[at(i)],

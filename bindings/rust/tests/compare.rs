@@ -3,7 +3,7 @@
 mod held;
 
 use held::{numbers, Held};
-use reference::sample::{boot_start, call_after_boot, possible_pairs, run, Rng};
+use reference::sample::{boot_start, call_after_boot, large_boot_start, possible_pairs, run, Rng};
 use reference::{Answer, Call, State};
 use std::collections::BTreeMap;
 use szk::lent::{self, Lent};
@@ -57,28 +57,57 @@ fn without_text(boot: &Call) -> Call {
     }
 }
 
-/// The library goes on with its own record and tables, so that a difference would stay.
+/// Makes a list of calls from a fresh record on, the boot first, and tells of each accepted one with the areas there are then. The library
+/// goes on with its own record and tables, so that a difference would stay.
+fn agree_on_list(rng: &mut Rng, start: (State, Call), calls: u64, accepted: &mut dyn FnMut(&Call, u64)) {
+    let (mut state, boot) = start;
+    let mut held = Held::of(&state);
+    for step in 0..calls {
+        let call = match state.machine.frames {
+            0 if step == 0 => boot.clone(),
+            0 => without_text(&boot),
+            _ => call_after_boot(rng, &state),
+        };
+        let expected = state.apply(&call);
+        let answer = held.make(&call);
+        assert!(held.agrees(answer, &state, expected), "{boot:?}, step {step}: {call:?}");
+        if expected.refusal == 0 {
+            accepted(&call, state.machine.declared);
+        }
+    }
+}
+
 #[test]
 fn long_lists_of_calls() {
     let mut accepted = 0;
     for seed in 0..40 {
         let mut rng = Rng::new(1000 + seed);
-        let (mut state, boot) = boot_start(&mut rng);
-        let mut held = Held::of(&state);
-        for step in 0..5_000 {
-            let call = match state.machine.frames {
-                0 if step == 0 => boot.clone(),
-                0 => without_text(&boot),
-                _ => call_after_boot(&mut rng, &state),
-            };
-            let expected = state.apply(&call);
-            let answer = held.make(&call);
-            assert!(held.agrees(answer, &state, expected), "seed {seed}, step {step}: {call:?}");
-            accepted += u64::from(expected.refusal == 0);
-        }
+        let start = boot_start(&mut rng);
+        agree_on_list(&mut rng, start, 5_000, &mut |_, _| accepted += 1);
     }
     println!("40 lists of 5000 calls agree, {accepted} of them accepted");
     assert!(accepted > 40_000);
+}
+
+#[test]
+fn lists_on_large_machines() {
+    let (mut accepted, mut most_frames, mut most_areas, mut longest_grant) = (0, 0, 0, 0);
+    for seed in 0..24 {
+        let mut rng = Rng::new(2000 + seed);
+        let start = large_boot_start(&mut rng);
+        agree_on_list(&mut rng, start, 30, &mut |call, areas| {
+            accepted += 1;
+            most_areas = areas.max(most_areas);
+            match call {
+                Call::Boot { frames, .. } => most_frames = most_frames.max(*frames),
+                Call::Grant { count, .. } => longest_grant = longest_grant.max(*count),
+                _ => {}
+            }
+        });
+    }
+    println!("24 lists of 30 calls agree on machines of up to {most_frames} frames and {most_areas} areas, {accepted} of them accepted");
+    println!("the longest grant in them has {longest_grant} frames");
+    assert!(accepted > 200 && most_frames == 262_144 && most_areas == 64 && longest_grant > 65_536);
 }
 
 /// Makes a call on slices of any length, beyond what the wrapper lends.
@@ -129,7 +158,7 @@ fn check_lengths(before: &State, call: &Call, after: &State, expected: Answer, l
     let written = match lengths {
         // The refusal alone, where there is no room for three numbers.
         (_, 0..=2) => [1, 6, 7],
-        (0..=27, _) => [1, 0, 0],
+        (record, _) if record < Machine::NUMBERS => [1, 0, 0],
         _ => [expected.refusal, expected.first, expected.second],
     };
     assert_eq!(answer, resized(&written, lengths.1), "{call:?} {lengths:?}");
@@ -145,7 +174,8 @@ fn records_and_answers_of_any_length() {
         if *seen > 3 {
             return;
         }
-        for record in (0..=31).chain([100]) {
+        // 28 numbers were a record of eight areas.
+        for record in (0..=5).chain([27, 28, 29, 100]).chain(Machine::NUMBERS - 3..=Machine::NUMBERS + 3).chain([300]) {
             for answer in 0..=5 {
                 check_lengths(before, call, after, expected, (record, answer));
             }

@@ -1,6 +1,7 @@
 //! The numbers of include/szk.h are those of the library's own source, of the wrapper and of the reference.
 
 use reference::machine::{kind, PAGE};
+use reference::regions::MAX_TEXT;
 use reference::Machine;
 use std::collections::BTreeMap;
 use std::fs;
@@ -21,10 +22,11 @@ fn defines() -> BTreeMap<String, u64> {
     file("include/szk.h").lines().filter_map(define).collect()
 }
 
-/// Each `pub const NAME: u64 = NUMBER;`.
-fn constants(path: &str) -> Vec<(String, u64)> {
+/// Each `pub const NAME: TYPE = NUMBER;`.
+fn constants(path: &str, of: &str) -> Vec<(String, u64)> {
+    let type_of = format!(": {of} = ");
     let constant = |line: &str| {
-        let (name, number) = line.trim_start().strip_prefix("pub const ")?.strip_suffix(';')?.split_once(": u64 = ")?;
+        let (name, number) = line.trim_start().strip_prefix("pub const ")?.strip_suffix(';')?.split_once(&type_of)?;
         Some((name.to_string(), number.parse().ok()?))
     };
     file(path).lines().filter_map(constant).collect()
@@ -32,8 +34,8 @@ fn constants(path: &str) -> Vec<(String, u64)> {
 
 #[test]
 fn refusals_have_the_same_names_and_numbers() {
-    let wrapped = constants("bindings/rust/src/refusal.rs");
-    let mut library = constants("crates/answer/src/refusal.rt");
+    let wrapped = constants("bindings/rust/src/refusal.rs", "u64");
+    let mut library = constants("crates/answer/src/refusal.rt", "u64");
     // In C and Rust "none" would not say of what.
     library[0].0 = "DONE".to_string();
     assert_eq!(library, wrapped);
@@ -47,12 +49,15 @@ fn refusals_have_the_same_names_and_numbers() {
 #[test]
 fn limits_are_those_of_the_record() {
     // The limits are associated constants of the record's own type; a constant given by another's name is not read here.
-    let limits = constants("crates/rules/src/lib.rt");
-    assert_eq!(limits.len(), 10);
+    let limits = constants("crates/rules/src/lib.rt", "u64");
+    assert_eq!(limits.len(), 9);
     let header = defines();
     for (name, number) in limits {
         assert_eq!(header.get(&name), Some(&number), "{name}");
     }
+    // The number of areas is an area's own, since the scans below the record list them.
+    let of_areas = [("NUMBERS", header["AREA_NUMBERS"]), ("MOST", header["MOST_AREAS"])];
+    assert_eq!(constants("crates/frames/src/lib.rt", "usize"), of_areas.map(|(name, number)| (name.to_string(), number)));
 }
 
 #[test]
@@ -69,7 +74,7 @@ fn limits_kinds_and_lengths_are_the_same() {
         ("MOST_NAME", Machine::MAX_NAME),
         ("MOST_ALIGN_ORDER", Machine::MAX_ALIGN_ORDER),
         ("MOST_BYTES", Machine::MAX_AMOUNT),
-        ("MOST_TEXT", 1024),
+        ("MOST_TEXT", MAX_TEXT as u64),
         ("FREE", kind::FREE.into()),
         ("MOVABLE", kind::MOVABLE.into()),
         ("PINNED", kind::PINNED.into()),
@@ -85,4 +90,6 @@ fn limits_kinds_and_lengths_are_the_same() {
     for (name, number) in expected {
         assert_eq!(header.get(name), Some(&number), "{name}");
     }
+    assert_eq!(szk::Machine::AREAS as u64, Machine::MAX_AREAS);
+    assert_eq!(header["RECORD_NUMBERS"], header["RECORD_AREAS"] + header["AREA_NUMBERS"] * header["MOST_AREAS"]);
 }

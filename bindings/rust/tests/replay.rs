@@ -58,6 +58,12 @@ fn a_crowded_day() {
 }
 
 #[test]
+fn a_day_of_many_areas() {
+    let lines: usize = (0..2).map(|seed| compare("areas", &day::records_of_many_areas(seed, 30_000))).sum();
+    println!("days of sixty areas: {lines} lines are the same");
+}
+
+#[test]
 fn nothing_at_all() {
     assert_eq!(compare("nothing", b""), 2);
 }

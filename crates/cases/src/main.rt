@@ -11,11 +11,11 @@ ghost use Rattle.cases.specs.steps.Tallies.{mostFile, Counted};
 mod texts;
 
 use libc::STDOUT_FILENO;
-use machine::Machine;
 use playback::Progress;
 use playback::Stop;
 use playback::held;
 use records::lines;
+use rules::Record;
 use text::writing::put_bytes;
 
 // A file that fills a buffer of so many bytes is not read to its end.
@@ -93,9 +93,9 @@ fn play(
     ensures { λ r. ⌜ r ≤ length (now (out .entry)) ⌝ }
 {
     let headed = lines::put_heading(out, text);
-    let machine = Machine::fresh();
+    let record = Record::fresh();
     let start = Progress {
-        machine,
+        record,
         at: 0,
         text: headed,
         step: 0,

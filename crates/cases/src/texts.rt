@@ -10,6 +10,7 @@ use playback::held;
 use regions::MOST_REGIONS;
 use regions::Region;
 use regions::Regions;
+use rules::Record;
 use text::writing::put_bytes;
 use text::writing::put_number;
 
@@ -111,11 +112,14 @@ fn put_boot(
     requires { ⌜ at ≤ length (now out) ⌝ }
     ensures { λ r. ⌜ r ≤ length (now (out .entry)) ⌝ }
 {
-    let returned = Machine::fresh().boot(marks, words, bitmap, Frame(4), 32, 2, text);
+    let fresh = Record::fresh();
+    let memory = fresh.memory;
+    let mut areas = fresh.areas;
+    let machine = Machine { memory };
+    let returned = machine.boot(&mut areas, marks, words, bitmap, Frame(4), 32, 2, text);
     let a = returned.answer;
     let told = put_three(out, at, b" boot", a.refusal, a.first, a.second);
-    let record = returned.machine.record;
-    put_areas(out, told, &record.areas, record.memory.declared)
+    put_areas(out, told, &areas, returned.machine.memory.declared)
 }
 
 // A line for a text.

@@ -4,7 +4,7 @@
 --     grant-refused, request-passed     the first checks refuse; they pass
 --     none-found, run-fits              no run can be granted; one can, and it lies in the area
 --     nowhere, granted                  the run's pages have nowhere to go; they have
-use Prim.Native.Nat.{ℕ, _+_, _-_, _*_, _≤_, _<_}
+use Prim.Native.Nat.{ℕ, _+_, _-_, _*_, _≤_, _<_, min}
 use native.Mathlib.Omega.{arith}
 use native.Mathlib.Nat.{mul-comm}
 use native.Mathlib.Numerals.{add-one}
@@ -28,7 +28,7 @@ use Rattle.frames.specs.Scans.{marked, isFreeOrdinary}
 use Rattle.frames.specs.Tables.{Tables, tables, fill, withBitmap}
 use Rattle.rules.specs.declared.Record.{Record}
 use Rattle.rules.specs.Record.{areaAt, isOrdinary}
-use Rattle.rules.specs.Limits.{mostFrames, mostBlockOrder, mostAlignOrder}
+use Rattle.rules.specs.Limits.{mostAreas, mostFrames, mostBlockOrder, mostAlignOrder}
 use Rattle.rules.specs.Shape.{shapeRight}
 use Rattle.rules.specs.Outcomes.{outcome, refuse, First, here, there, Passed}
 use Rattle.rules.specs.PageCalls.{freeOrdinary}
@@ -78,6 +78,7 @@ module _ (m : Record) (t : Tables) (i count : ℕ) (j : Bit) where
     pub words-high : bitmapOf m i ≤ mostNumber
     pub frame-high : frameOfBit (areaAt m i) j .0 ≤ mostNumber
     pub count-high : count ≤ mostFrames
+    pub declared-high : m .memory .declared ≤ mostAreas
     pub end-high : first .0 + count ≤ m .memory .frames
     pub marks-length : length (t .marks) ≡ m .memory .frames
     pub words-length : length (t .words) ≡ m .memory .frames
@@ -93,6 +94,7 @@ module _ (m : Record) (t : Tables) (i count : ℕ) (j : Bit) where
         words-high = omega (arith, first-word-exact m t (f .shape) i (let h : i ≤ m .memory .declared = omega (arith, f .known) in h));
         frame-high = omega (arith, k .memory .end-high);
         count-high = omega (arith, r .low, k .memory .frames-high);
+        declared-high = k .declared-high;
         end-high = omega (arith, r .low);
         marks-length = k .marks-length;
         words-length = k .words-length;
@@ -174,12 +176,16 @@ module _ (m : Record) (i count align : ℕ) (t : Tables) where
 
         -- ---- n movable frames, and whether there are as many targets
         module _ {p : Place} (at : p ≡ placeOfBit m i r) {n : ℕ} (counted : n ≡ howMany (marked (hasKind movable) (t .marks)) (p .0) count) {h : Bool}
-            (enough : h ≡ leb n (howMany (isFreeOrdinary (t .marks) (m .memory .base) (m .areas) (m .memory .declared)) 0 (length (t .marks)))) where
+            (enough : h ≡ leb n (howMany (isFreeOrdinary (t .marks) (m .memory .base) (m .areas) (min (m .memory .declared) mostAreas)) 0 (length (t .marks)))) where
           is-movers : n ≡ movers t (placeOfBit m i r) count
           is-movers = counted ∙ movers-found m t i count r at
 
+          few-declared : min (m .memory .declared) mostAreas ≡ m .memory .declared
+          few-declared = omega (arith, shape-known m t shaped .declared-high)
+
           is-enough : h ≡ leb n (targets m t)
-          is-enough = enough ∙ ap (leb n) (targets-found m t i count r (shape-known m t shaped .marks-length))
+          is-enough =
+              enough ∙ ap (λ (k : ℕ). leb n (howMany (isFreeOrdinary (t .marks) (m .memory .base) (m .areas) k) 0 (length (t .marks)))) few-declared ∙ ap (leb n) (targets-found m t i count r (shape-known m t shaped .marks-length))
 
           -- the last check
           too-few : ltb (targets m t) (movers t (placeOfBit m i (chosen m t i count align)) count) ≡ ltb (targets m t) n

@@ -9,18 +9,20 @@ ghost use Rattle.frames.specs.Units.{place};
 ghost use Rattle.frames.specs.Marks.{hasKind, movable};
 ghost use Rattle.frames.specs.Tables.{tables};
 ghost use Rattle.frames.specs.Scans.{marked};
-ghost use Rattle.rules.specs.Limits.{mostFrames};
+ghost use Rattle.rules.specs.Limits.{mostAreas, mostFrames};
 ghost use Rattle.rules.specs.Record.{isOrdinary};
 ghost use Rattle.rules.specs.Does.{recordWith, given};
 ghost use Rattle.rules.specs.DeviceCalls.{moveOut, markRun};
 ghost use Rattle.device_calls.specs.steps.DeviceSteps.{pageMoved};
 use frames::Place;
+use frames::Run;
 use frames::fill_marks;
 use frames::fill_words;
-use frames::find_free_ordinary;
+use frames::in_order;
 use frames::kinds::HEAD;
 use frames::kinds::LATER;
 use frames::kinds::MOVABLE;
+use frames::next_free;
 use rules::Memory;
 
 // The lowest place of a range that has a movable page; the range's end where there is none.
@@ -54,7 +56,7 @@ fn move_page(marks: &mut [u32], words: &mut [u64], page: Place, to: Place)
 }
 
 // The movable pages of a run that lies in an area go out, ascending, each to the lowest free ordinary frame. No place below the last one's
-// is free and ordinary any more, so that the next search begins there.
+// is free and ordinary any more, so that the next search begins there, and each area is passed once.
 pub(crate) fn move_out(
     memory: Memory,
     areas: &[u64],
@@ -63,14 +65,16 @@ pub(crate) fn move_out(
     page: Place,
     count: u64,
 )
-    requires { ⌜ (page .0 + count ≤ memory .frames) × (length (now marks) ≡ memory .frames) × (length (now words) ≡ memory .frames) × ((k : ℕ) → page .0 ≤ k → k < page .0 + count → isOrdinary (recordWith memory (now areas)) (place k) ≡ false) ⌝ }
+    requires { ⌜ (memory .declared ≤ mostAreas) × (page .0 + count ≤ memory .frames) × (length (now marks) ≡ memory .frames) × (length (now words) ≡ memory .frames) × ((k : ℕ) → page .0 ≤ k → k < page .0 + count → isOrdinary (recordWith memory (now areas)) (place k) ≡ false) ⌝ }
     ensures { λ _. ⌜ tables (now (marks .exit)) (now (words .exit)) [] ≡ moveOut (given memory areas) (tables (now (marks .entry)) (now (words .entry)) []) page count ⌝ }
 {
     let end = Place(page.0 + count as usize);
-    let mut to = Place(0);
+    let order = in_order(areas, memory.declared);
+    let mut run = Run::none();
     let mut at = next_movable(marks, page, end);
     while at.0 < end.0 {
-        to = find_free_ordinary(marks, memory.base, areas, memory.declared, to);
+        run = next_free(marks, memory.base, areas, order, run);
+        let to = run.first();
         move_page(marks, words, at, to);
         at = next_movable(marks, Place(at.0 + 1), end);
     }

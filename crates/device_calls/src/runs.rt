@@ -90,8 +90,8 @@ fn clear_up_to(bitmap: &[u64], wanted: Wanted, from: usize, end: usize) -> usize
     from + clear_bits(bitmap, wanted.start, from, far - from).bits
 }
 
-// How many bits from a bit on are ruled out by a set bit of the run at it: those of every run over it, and those behind it up to the next that
-// a run could begin at.
+// How many bits from a bit on are ruled out by a set bit of the run at it: those of every run over it; and, where candidates stand close together
+// and there are any behind it, those up to the next that a run could begin at.
 fn bits_rule_out(bitmap: &[u64], wanted: Wanted, bit: Bit, set: usize) -> usize
     requires { ⌜ TriesAt wanted bit ⌝ }
     requires { ⌜ SetIn (now bitmap) wanted (bit .0) set ⌝ }
@@ -101,7 +101,7 @@ fn bits_rule_out(bitmap: &[u64], wanted: Wanted, bit: Bit, set: usize) -> usize
     if wanted.last < next {
         return next - bit.0;
     }
-    // Where candidates stand further apart than a word has bits, most words have none, and nothing is passed by looking at them.
+    // Where candidates stand further apart than a word has bits, at least half of the words have none, and looking at them passes little.
     if 6 < wanted.order {
         return next - bit.0;
     }

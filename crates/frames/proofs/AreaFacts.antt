@@ -1,5 +1,5 @@
 -- What the code's comparisons say of an area. Assumes nothing.
-use Prim.Native.Nat.{ℕ, zero, suc, _+_, _-_, _*_, _/_, _%_, _^_, _≤_, _<_, min}
+use Prim.Native.Nat.{ℕ, zero, suc, _+_, _-_, _*_, _/_, _%_, _^_, _≤_, _<_}
 use native.Mathlib.Omega.{arith}
 use native.Mathlib.Nat.{div-add-mod', mod-lt, mul-add-div-right, add-div-left, div-eq-of-lt, div-lt-self, one-mul}
 use native.Mathlib.Numerals.{add-one}
@@ -10,14 +10,12 @@ use lib.Dec.{leb, ltb}
 use lib.ListN.{length}
 use lib.Pow.{shl-exact}
 use borrow.Author.Tests.{lt-ltb, le-ltb, le-leb, lt-leb, leb-true, ltb-true}
-use Rattle.search.specs.Search.{lowest}
 use Rattle.search.proofs.Bools.{below-or-not, clash, and-left, and-right, and-both, and-false-right}
-use Rattle.search.proofs.Lowest.{found-low}
 use Rattle.search.proofs.Ranges.{some-hit, none-some, some-no}
 use Rattle.frames.specs.declared.Area.{Area}
 use Rattle.frames.specs.declared.Frame.{Frame}
 use Rattle.frames.specs.Units.{frame}
-use Rattle.frames.specs.steps.Runs.{inUse, holderOf, PastArea}
+use Rattle.frames.specs.steps.Runs.{inUse}
 use Rattle.frames.specs.Areas.{ceiling, holdsFrame, endOf, areaNumbers, areaIn, noArea, inAreas, wordCount, firstWord}
 use Rattle.frames.proofs.AreaNumbers.{area-past}
 
@@ -46,12 +44,6 @@ module _ (a : Area) (f : ℕ) where
   holds-by x y h yes-case no-case =
       below-or-not x y (λ w. lt-ltb x y w ∙ sym (holds-yes h (yes-case w))) (λ w. le-ltb x y w ∙ sym (holds-above (no-case w)))
 
--- a frame that the area does not hold, and a later one that is not past the area's first either
-pub still-out : (a : Area) (base at p : ℕ) → at ≤ p → (at < a .base .0 - base → p < a .base .0 - base) → holdsFrame a (frame (base + at)) ≡ false → holdsFrame a (frame (base + p)) ≡ false
-still-out a base at p h near e =
-    below-or-not at (a .base .0 - base) (λ w. holds-below a (base + p) (omega (arith, near w)))
-    (λ w. holds-above a (base + p) (omega (arith, holds-not a (base + at) (omega arith) e)))
-
 -- ---- the first n areas of a record's numbers
 module _ (areas : List ℕ) (n : ℕ) (f : Frame) where
   pub in-area : (i : ℕ) → i < n → holdsFrame (areaIn areas i) f ≡ true → inAreas areas n f ≡ true
@@ -70,23 +62,6 @@ module _ (areas : List ℕ) (n : ℕ) (f : Frame) where
       (λ i a b.
       below-or-not i (inUse areas n) (none i)
       (λ h. ap (λ (a : Area). holdsFrame a f) (area-past areas i (omega arith)) ∙ holds-above noArea (f .0) (omega arith)))
-
-  -- so a search of the areas tells whether one holds the frame
-  pub no-area : inUse areas n ≤ lowest (holderOf areas f) (inUse areas n) → inAreas areas n f ≡ false
-  no-area h = out-of-areas (λ i l. found-low (holderOf areas f) (inUse areas n) i (omega arith))
-
--- an area that holds a place holds each from there up to its end
-pub past-held : (base : Frame) (areas : List ℕ) (n at len i r : ℕ) → i < n → at < len → holderOf areas (frame (base .0 + at)) i ≡ true → r ≡ min (endOf (areaIn areas i) - base .0) len → PastArea base areas n at len r
-past-held base areas n at len i r h l e q =
-    let a = areaIn areas i in
-    let first = holds-first a (base .0 + at) e in
-    let last = holds-last a (base .0 + at) e in
-    record {
-      low = omega arith;
-      high = omega arith;
-      held = λ k u v. in-area areas n (frame (base .0 + k)) i h (holds-yes a (base .0 + k) (omega arith) (omega arith));
-      clear = λ z. absurd (omega arith);
-    }
 
 -- ---- rounding up
 pub ceiling-exact : (x d : ℕ) → 0 < d → x % d ≡ 0 → ceiling x d ≡ x / d

@@ -2,6 +2,8 @@ pub mod AreaFacts
 pub mod AreaNumbers
 pub mod FillFacts
 pub mod MarkFacts
+pub mod Orders
 pub mod RunFacts
 pub mod ScanFacts
 pub mod Stuck
+pub mod Walks

@@ -35,6 +35,10 @@ areDisjoint a c = leb (endOf a) (c .base .0) || leb (endOf c) (a .base .0)
 abbrev pub areaNumbers : ℕ
 areaNumbers = 3
 
+-- how many areas a record has room for
+abbrev pub mostAreas : ℕ
+mostAreas = 64
+
 -- area i of a record's numbers; past their end a number reads 0
 abbrev pub areaIn : List ℕ → ℕ → Area
 areaIn numbers i =

@@ -1,12 +1,11 @@
 // What an area holds, its share of the bitmap, and the areas of a record, which are lent as numbers, `Area::NUMBERS` for each.
 // Frame numbers are compared by their differences: no sum of two of them is made.
-ghost use Prim.Native.Nat.{_<_, _+_, _-_, min};
+ghost use Prim.Native.Nat.{_<_, _-_, min};
 ghost use mathlib.Core.Path.{_≡_};
 ghost use lib.ListN.{getD, set};
-ghost use Rattle.search.specs.Search.{lowest};
-ghost use Rattle.frames.specs.Units.{frame, mostNumber};
-ghost use Rattle.frames.specs.steps.Runs.{inUse, holderOf, StartsBy, PastArea, NextArea, OrdinaryRun};
-ghost use Rattle.frames.specs.Areas.{holdsFrame, ceiling, endOf, bitCount, wordCount, firstWord, bitsFor, areaIn, setArea};
+ghost use Rattle.frames.specs.Units.{mostNumber};
+ghost use Rattle.frames.specs.steps.Runs.{inUse};
+ghost use Rattle.frames.specs.Areas.{ceiling, endOf, bitCount, wordCount, firstWord, bitsFor, areaIn, setArea};
 use crate::Area;
 use crate::Frame;
 use crate::Place;
@@ -56,26 +55,8 @@ impl Area {
         1
     }
 
-    // The frame at place `at` of a table that begins at frame `base` is the area's.
-    fn holds(self, base: Frame, at: Place) -> bool
-        ensures { λ r. ⌜ r ≡ holdsFrame self (frame (base .0 + at .0)) ⌝ }
-    {
-        if base.0 <= self.base.0 {
-            let start = place_of(base, self.base);
-            if at.0 < start.0 {
-                return false;
-            }
-            return ((at.0 - start.0) as u64) < self.count;
-        }
-        let past = base.0 - self.base.0;
-        if self.count <= past {
-            return false;
-        }
-        (at.0 as u64) < self.count - past
-    }
-
     // The place after the area's last, or `end` where that comes first.
-    fn end_place(self, base: Frame, end: Place) -> Place
+    pub(crate) fn end_place(self, base: Frame, end: Place) -> Place
         ensures { λ r. ⌜ r .0 ≡ min (endOf self - base .0) (end .0) ⌝ }
     {
         if base.0 <= self.base.0 {
@@ -97,20 +78,6 @@ impl Area {
             return end;
         }
         Place(left as usize)
-    }
-
-    // The area's first place where that lies after `at` and before `stop`, else `stop`.
-    fn start_place(self, base: Frame, at: Place, stop: Place) -> Place
-        ensures { λ r. ⌜ StartsBy self base (at .0) (stop .0) (r .0) ⌝ }
-    {
-        let start = place_of(base, self.base);
-        if start.0 <= at.0 {
-            return stop;
-        }
-        if stop.0 <= start.0 {
-            return stop;
-        }
-        start
     }
 }
 
@@ -170,7 +137,7 @@ pub fn set_area(areas: &mut [u64], i: usize, area: Area)
 }
 
 // How many areas to look at: those past the end of the numbers hold no frame.
-fn in_use(areas: &[u64], declared: u64) -> usize
+pub(crate) fn in_use(areas: &[u64], declared: u64) -> usize
     ensures { λ r. ⌜ r ≡ inUse (now (areas .entry)) declared ⌝ }
 {
     let room = ceiling(areas.len() as u64, Area::NUMBERS as u64);
@@ -178,78 +145,6 @@ fn in_use(areas: &[u64], declared: u64) -> usize
         return room as usize;
     }
     declared as usize
-}
-
-// The number of the lowest area that holds place `at`; where none does, the number of areas to look at.
-fn area_of(base: Frame, areas: &[u64], declared: u64, at: Place) -> usize
-    ensures { λ r. ⌜ r ≡ lowest (holderOf (now (areas .entry)) (frame (base .0 + at .0))) (inUse (now (areas .entry)) declared) ⌝ }
-{
-    let end = in_use(areas, declared);
-    let mut k = 0;
-    while k < end {
-        let area = area_at(areas, k);
-        if area.holds(base, at) {
-            return k;
-        }
-        k += 1;
-    }
-    k
-}
-
-// The end of an area that holds place `at`, or `at` itself where it is ordinary; `end` is the place after the tables' last.
-fn past_area(base: Frame, areas: &[u64], declared: u64, at: Place, end: Place) -> Place
-    requires { ⌜ at .0 < end .0 ⌝ }
-    ensures { λ r. ⌜ PastArea base (now (areas .entry)) declared (at .0) (end .0) (r .0) ⌝ }
-{
-    let k = area_of(base, areas, declared, at);
-    if in_use(areas, declared) <= k {
-        return at;
-    }
-    let area = area_at(areas, k);
-    area.end_place(base, end)
-}
-
-// Up to here the places from the ordinary place `at` on are ordinary too: the next first place of an area, or `end`.
-fn next_area(base: Frame, areas: &[u64], declared: u64, at: Place, end: Place) -> Place
-    requires { ⌜ at .0 < end .0 ⌝ }
-    ensures { λ r. ⌜ NextArea base (now (areas .entry)) declared (at .0) (end .0) (r .0) ⌝ }
-{
-    let last = in_use(areas, declared);
-    let mut stop = end;
-    let mut k = 0;
-    while k < last {
-        let area = area_at(areas, k);
-        stop = area.start_place(base, at, stop);
-        k += 1;
-    }
-    stop
-}
-
-// Some places in a row: the first, and the one after the last.
-pub(crate) struct Run {
-    pub from: Place,
-    pub end: Place,
-}
-
-// The next ordinary places from `at` on; none of them, at `end`, where all that is left is in areas.
-pub(crate) fn ordinary_run(base: Frame, areas: &[u64], declared: u64, at: Place, end: Place) -> Run
-    requires { ⌜ at .0 < end .0 ⌝ }
-    ensures { λ r. ⌜ OrdinaryRun base (now (areas .entry)) declared (at .0) (end .0) (r .from .0) (r .end .0) ⌝ }
-{
-    let last = end.0;
-    let mut i = at.0;
-    while i < last {
-        let next = past_area(base, areas, declared, Place(i), end);
-        if next.0 == i {
-            let stop = next_area(base, areas, declared, next, end);
-            return Run {
-                from: next,
-                end: stop,
-            };
-        }
-        i = next.0;
-    }
-    Run { from: end, end }
 }
 
 // The first bitmap word of area i; the largest number where it would pass that.

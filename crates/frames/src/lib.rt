@@ -3,7 +3,9 @@ mod areas;
 mod fills;
 pub mod kinds;
 mod marks;
+mod order;
 mod units;
+mod walk;
 
 pub use areas::area_at;
 pub use areas::first_word;
@@ -18,8 +20,12 @@ pub use marks::find_free_ordinary;
 pub use marks::find_page;
 pub use marks::first_stuck;
 pub use marks::has_free_ordinary;
+pub use marks::next_free;
+pub use order::Order;
+pub use order::in_order;
 pub use units::frame_at;
 pub use units::place_of;
+pub use walk::Run;
 
 // A physical frame number.
 pub struct Frame(pub u64);
@@ -41,4 +47,7 @@ pub struct Area {
 impl Area {
     // How many numbers an area takes in a record: its first frame, its count, and its order of pages per bit.
     pub const NUMBERS: usize = 3;
+
+    // How many a record has room for.
+    pub const MOST: usize = 64;
 }

@@ -1,7 +1,7 @@
 // Scans of the marks. A long scan goes by blocks of 32: whether a block can hold what is sought is asked of all 32 with no exit between
 // them, which the compiler turns into vector instructions, and only a block that can is looked through place by place. `stuck_in` looks at
 // the first few places so before.
-ghost use Prim.Native.Nat.{_≤_, _+_, _-_};
+ghost use Prim.Native.Nat.{_≤_, _+_, _-_, min};
 ghost use mathlib.Core.Path.{_≡_};
 ghost use mathlib.Core.Bool.{true, not};
 ghost use lib.Dec.{leb};
@@ -11,14 +11,20 @@ ghost use Rattle.search.specs.Search.{lowest, lowestFrom, some, every, howMany}
 ghost use Rattle.frames.specs.Units.{place};
 ghost use Rattle.frames.specs.Marks.{hasKind, isPageOf, canLeave, free, movable, later};
 ghost use Rattle.frames.specs.Scans.{marked, hasBits, hasField, isFreeOrdinary};
+ghost use Rattle.frames.specs.Areas.{mostAreas};
+ghost use Rattle.frames.specs.steps.Runs.{FindsFree, NextFree};
 use crate::Frame;
 use crate::Place;
-use crate::areas::ordinary_run;
 use crate::fills::range_end;
 use crate::kinds::FIXED;
 use crate::kinds::FREE;
 use crate::kinds::LATER;
 use crate::kinds::MOVABLE;
+use crate::order::Order;
+use crate::order::in_order;
+use crate::walk::Run;
+use crate::walk::earlier;
+use crate::walk::next_run;
 
 // The largest field that a mark has room for.
 const MOST_FIELD: u64 = 0x1fff_ffff;
@@ -271,27 +277,63 @@ fn is_movable(mark: u32) -> u64
     0
 }
 
-// The lowest free place from `from` on that is in none of the first `declared` areas, in a table that begins at frame `base`.
-pub fn find_free_ordinary(
-    marks: &[u32],
-    base: Frame,
-    areas: &[u64],
-    declared: u64,
-    from: Place,
-) -> Place
-    ensures { λ r. ⌜ r ≡ place (lowestFrom (isFreeOrdinary (now (marks .entry)) base (now (areas .entry)) declared) (from .0) (length (now (marks .entry)) - from .0)) ⌝ }
+// The lowest free place from `from` on that is in none of the areas of an order, in a table that begins at frame `base`, and the end of the
+// ordinary places that it is among; the place after the last for both where there is none. The areas before k end before `from`.
+fn free_run(marks: &[u32], base: Frame, areas: &[u64], order: Order, from: Place, k: usize) -> Run
+    ensures { λ r. ⌜ FindsFree (now (marks .entry)) base (now (areas .entry)) order (from .0) k r ⌝ }
 {
     let len = marks.len();
     let mut i = from.0;
+    let mut next = k;
     while i < len {
-        let run = ordinary_run(base, areas, declared, Place(i), Place(len));
-        let at = kind_in(marks, KIND_BITS, false, run.from, run.end);
-        if at.0 < run.end.0 {
-            return at;
+        let run = next_run(base, areas, order, Place(i), next, Place(len));
+        let end = run.end;
+        next = run.next;
+        let at = kind_in(marks, KIND_BITS, false, run.from, end);
+        if at.0 < end.0 {
+            return Run {
+                from: at,
+                end,
+                next,
+            };
         }
-        i = run.end.0;
+        i = end.0;
     }
-    Place(i)
+    Run {
+        from: Place(i),
+        end: Place(i),
+        next,
+    }
+}
+
+// The lowest free place that is in none of the first `declared` areas.
+pub fn find_free_ordinary(marks: &[u32], base: Frame, areas: &[u64], declared: u64) -> Place
+    ensures { λ r. ⌜ r ≡ place (lowest (isFreeOrdinary (now (marks .entry)) base (now (areas .entry)) (min declared mostAreas)) (length (now (marks .entry)))) ⌝ }
+{
+    let order = in_order(areas, declared);
+    let run = free_run(marks, base, areas, order, Place(0), 0);
+    run.from
+}
+
+// The same from a run's first place on, with the end of the ordinary places that it is among. For places of the run no area is looked at.
+pub fn next_free(marks: &[u32], base: Frame, areas: &[u64], order: Order, run: Run) -> Run
+    ensures { λ r. ⌜ NextFree (now (marks .entry)) base (now (areas .entry)) order run r ⌝ }
+{
+    let len = marks.len();
+    let from = run.from;
+    let end = earlier(run.end, Place(len));
+    if end.0 <= from.0 {
+        return free_run(marks, base, areas, order, from, run.next);
+    }
+    let at = kind_in(marks, KIND_BITS, false, from, end);
+    if at.0 < end.0 {
+        return Run {
+            from: at,
+            end,
+            next: run.next,
+        };
+    }
+    free_run(marks, base, areas, order, end, run.next)
 }
 
 // What is left of `least` after the free places of a range are taken off.
@@ -330,18 +372,21 @@ pub fn has_free_ordinary(
     declared: u64,
     least: u64,
 ) -> bool
-    ensures { λ r. ⌜ r ≡ leb least (howMany (isFreeOrdinary (now (marks .entry)) base (now (areas .entry)) declared) 0 (length (now (marks .entry)))) ⌝ }
+    ensures { λ r. ⌜ r ≡ leb least (howMany (isFreeOrdinary (now (marks .entry)) base (now (areas .entry)) (min declared mostAreas)) 0 (length (now (marks .entry)))) ⌝ }
 {
     let len = marks.len();
+    let order = in_order(areas, declared);
     let mut left = least;
     let mut i = 0;
+    let mut next = 0;
     while i < len {
         if left == 0 {
             return true;
         }
-        let run = ordinary_run(base, areas, declared, Place(i), Place(len));
+        let run = next_run(base, areas, order, Place(i), next, Place(len));
         left = less_free(marks, run.from, run.end, left);
         i = run.end.0;
+        next = run.next;
     }
     left == 0
 }

@@ -1,61 +1,48 @@
 // The machine record's calls, as methods by value, and one function that performs any of them.
 //
-// Each takes any record, any numbers, any text and any tables, and hands the next record back with the answer. A refused call has changed
-// nothing. What a call does stands in `page_calls` and `device_calls`, which are lent the areas and copy none, and in `setup`, which makes
-// the next record.
-ghost use mathlib.Core.Path.{_≡_};
-ghost use Rattle.rules.specs.Record.{freshRecord};
+// Each takes any record, any numbers, any text and any tables, and hands the next record back with the answer: its memory by value, and the
+// numbers of its areas where they were lent, so that no call copies them. A refused call has changed nothing. What a call does stands in
+// `page_calls`, `device_calls` and `setup`.
 ghost use Rattle.rules.specs.PageCalls.{putMovable, putFixed, dropPage, pinPage, unpinPage, storePage, readPage};
 ghost use Rattle.rules.specs.DeviceCalls.{grant, release, deviceStore, deviceRead};
 ghost use Rattle.rules.specs.Declare.{declare};
 ghost use Rattle.rules.specs.Boot.{boot};
 ghost use Rattle.rules.specs.Calls.{perform};
+ghost use Rattle.rules.specs.Does.{withAllAreas};
 ghost use Rattle.machine.specs.Does.{Does};
 use answer::Answer;
+use answer::refusal;
 use frames::Frame;
 use rules::Call;
+use rules::Memory;
 use rules::Record;
 use rules::Request;
 
-// A machine is its record. Methods can only stand in the crate of their type, and the record's own type stands below the rules that are
-// stated of it; so the calls are methods of this one, which holds the record and nothing else.
+// A machine is its record, but for the numbers of its areas, which are lent beside the tables. Methods can only stand in the crate of their
+// type, and the memory's own type stands below the rules that are stated of it; so the calls are methods of this one, which holds nothing else.
 pub struct Machine {
-    pub record: Record,
+    pub memory: Memory,
 }
 
-// What a call hands back: the next record and the answer.
+// What a call hands back: the next record, with the areas as they were left, and the answer.
 pub struct Returned {
     pub machine: Machine,
     pub answer: Answer,
 }
 
 impl Machine {
-    // A fresh record: all zeros, so every call but boot refuses it as the wrong shape.
-    pub fn fresh() -> Self
-        ensures { λ r. ⌜ r .record ≡ freshRecord ⌝ }
-    {
-        let record = Record::fresh();
-        Self { record }
-    }
-
     // A movable page is put.
     pub fn put_movable(
         self,
+        areas: &mut [u64],
         marks: &mut [u32],
         words: &mut [u64],
         bitmap: &mut [u64],
         name: u64,
     ) -> Returned
-        ensures { λ r. ⌜ Does (λ m. putMovable m name) self r marks words bitmap ⌝ }
+        ensures { λ r. ⌜ Does (λ m. putMovable m name) self areas r marks words bitmap ⌝ }
     {
-        let answer = page_calls::put_movable(
-            self.record.memory,
-            &self.record.areas,
-            marks,
-            words,
-            bitmap,
-            name,
-        );
+        let answer = page_calls::put_movable(self.memory, areas, marks, words, bitmap, name);
         Returned {
             machine: self,
             answer,
@@ -65,21 +52,15 @@ impl Machine {
     // A fixed page is put, which no area takes.
     pub fn put_fixed(
         self,
+        areas: &mut [u64],
         marks: &mut [u32],
         words: &mut [u64],
         bitmap: &mut [u64],
         name: u64,
     ) -> Returned
-        ensures { λ r. ⌜ Does (λ m. putFixed m name) self r marks words bitmap ⌝ }
+        ensures { λ r. ⌜ Does (λ m. putFixed m name) self areas r marks words bitmap ⌝ }
     {
-        let answer = page_calls::put_fixed(
-            self.record.memory,
-            &self.record.areas,
-            marks,
-            words,
-            bitmap,
-            name,
-        );
+        let answer = page_calls::put_fixed(self.memory, areas, marks, words, bitmap, name);
         Returned {
             machine: self,
             answer,
@@ -89,21 +70,15 @@ impl Machine {
     // A page is gone from its frame, unless it is pinned.
     pub fn drop_page(
         self,
+        areas: &mut [u64],
         marks: &mut [u32],
         words: &mut [u64],
         bitmap: &mut [u64],
         name: u64,
     ) -> Returned
-        ensures { λ r. ⌜ Does (λ m. dropPage m name) self r marks words bitmap ⌝ }
+        ensures { λ r. ⌜ Does (λ m. dropPage m name) self areas r marks words bitmap ⌝ }
     {
-        let answer = page_calls::drop_page(
-            self.record.memory,
-            &self.record.areas,
-            marks,
-            words,
-            bitmap,
-            name,
-        );
+        let answer = page_calls::drop_page(self.memory, areas, marks, words, bitmap, name);
         Returned {
             machine: self,
             answer,
@@ -113,21 +88,15 @@ impl Machine {
     // A movable page is pinned: nobody may move, rewrite or drop it.
     pub fn pin_page(
         self,
+        areas: &mut [u64],
         marks: &mut [u32],
         words: &mut [u64],
         bitmap: &mut [u64],
         name: u64,
     ) -> Returned
-        ensures { λ r. ⌜ Does (λ m. pinPage m name) self r marks words bitmap ⌝ }
+        ensures { λ r. ⌜ Does (λ m. pinPage m name) self areas r marks words bitmap ⌝ }
     {
-        let answer = page_calls::pin_page(
-            self.record.memory,
-            &self.record.areas,
-            marks,
-            words,
-            bitmap,
-            name,
-        );
+        let answer = page_calls::pin_page(self.memory, areas, marks, words, bitmap, name);
         Returned {
             machine: self,
             answer,
@@ -137,21 +106,15 @@ impl Machine {
     // A pinned page is movable again.
     pub fn unpin_page(
         self,
+        areas: &mut [u64],
         marks: &mut [u32],
         words: &mut [u64],
         bitmap: &mut [u64],
         name: u64,
     ) -> Returned
-        ensures { λ r. ⌜ Does (λ m. unpinPage m name) self r marks words bitmap ⌝ }
+        ensures { λ r. ⌜ Does (λ m. unpinPage m name) self areas r marks words bitmap ⌝ }
     {
-        let answer = page_calls::unpin_page(
-            self.record.memory,
-            &self.record.areas,
-            marks,
-            words,
-            bitmap,
-            name,
-        );
+        let answer = page_calls::unpin_page(self.memory, areas, marks, words, bitmap, name);
         Returned {
             machine: self,
             answer,
@@ -161,23 +124,16 @@ impl Machine {
     // The word becomes the page's, unless it is pinned.
     pub fn store_page(
         self,
+        areas: &mut [u64],
         marks: &mut [u32],
         words: &mut [u64],
         bitmap: &mut [u64],
         name: u64,
         word: u64,
     ) -> Returned
-        ensures { λ r. ⌜ Does (λ m. storePage m name word) self r marks words bitmap ⌝ }
+        ensures { λ r. ⌜ Does (λ m. storePage m name word) self areas r marks words bitmap ⌝ }
     {
-        let answer = page_calls::store_page(
-            self.record.memory,
-            &self.record.areas,
-            marks,
-            words,
-            bitmap,
-            name,
-            word,
-        );
+        let answer = page_calls::store_page(self.memory, areas, marks, words, bitmap, name, word);
         Returned {
             machine: self,
             answer,
@@ -187,21 +143,15 @@ impl Machine {
     // The page's frame and its word.
     pub fn read_page(
         self,
+        areas: &mut [u64],
         marks: &mut [u32],
         words: &mut [u64],
         bitmap: &mut [u64],
         name: u64,
     ) -> Returned
-        ensures { λ r. ⌜ Does (λ m. readPage m name) self r marks words bitmap ⌝ }
+        ensures { λ r. ⌜ Does (λ m. readPage m name) self areas r marks words bitmap ⌝ }
     {
-        let answer = page_calls::read_page(
-            self.record.memory,
-            &self.record.areas,
-            marks,
-            words,
-            bitmap,
-            name,
-        );
+        let answer = page_calls::read_page(self.memory, areas, marks, words, bitmap, name);
         Returned {
             machine: self,
             answer,
@@ -211,6 +161,7 @@ impl Machine {
     // The lowest run that can be granted is a device's, and its movable pages stand elsewhere.
     pub fn grant(
         self,
+        areas: &mut [u64],
         marks: &mut [u32],
         words: &mut [u64],
         bitmap: &mut [u64],
@@ -218,11 +169,11 @@ impl Machine {
         count: u64,
         align: u64,
     ) -> Returned
-        ensures { λ r. ⌜ Does (λ m. grant m area count align) self r marks words bitmap ⌝ }
+        ensures { λ r. ⌜ Does (λ m. grant m area count align) self areas r marks words bitmap ⌝ }
     {
         let answer = device_calls::grant(
-            self.record.memory,
-            &self.record.areas,
+            self.memory,
+            areas,
             marks,
             words,
             bitmap,
@@ -239,6 +190,7 @@ impl Machine {
     // A grant ends: its frames are free, and its bits clear.
     pub fn release(
         self,
+        areas: &mut [u64],
         marks: &mut [u32],
         words: &mut [u64],
         bitmap: &mut [u64],
@@ -246,11 +198,11 @@ impl Machine {
         frame: Frame,
         count: u64,
     ) -> Returned
-        ensures { λ r. ⌜ Does (λ m. release m area frame count) self r marks words bitmap ⌝ }
+        ensures { λ r. ⌜ Does (λ m. release m area frame count) self areas r marks words bitmap ⌝ }
     {
         let answer = device_calls::release(
-            self.record.memory,
-            &self.record.areas,
+            self.memory,
+            areas,
             marks,
             words,
             bitmap,
@@ -267,17 +219,18 @@ impl Machine {
     // The word becomes that of a granted frame.
     pub fn device_store(
         self,
+        areas: &mut [u64],
         marks: &mut [u32],
         words: &mut [u64],
         bitmap: &mut [u64],
         frame: Frame,
         word: u64,
     ) -> Returned
-        ensures { λ r. ⌜ Does (λ m. deviceStore m frame word) self r marks words bitmap ⌝ }
+        ensures { λ r. ⌜ Does (λ m. deviceStore m frame word) self areas r marks words bitmap ⌝ }
     {
         let answer = device_calls::device_store(
-            self.record.memory,
-            &self.record.areas,
+            self.memory,
+            areas,
             marks,
             words,
             bitmap,
@@ -293,48 +246,45 @@ impl Machine {
     // The word of a granted frame.
     pub fn device_read(
         self,
+        areas: &mut [u64],
         marks: &mut [u32],
         words: &mut [u64],
         bitmap: &mut [u64],
         frame: Frame,
     ) -> Returned
-        ensures { λ r. ⌜ Does (λ m. deviceRead m frame) self r marks words bitmap ⌝ }
+        ensures { λ r. ⌜ Does (λ m. deviceRead m frame) self areas r marks words bitmap ⌝ }
     {
-        let answer = device_calls::device_read(
-            self.record.memory,
-            &self.record.areas,
-            marks,
-            words,
-            bitmap,
-            frame,
-        );
+        let answer = device_calls::device_read(self.memory, areas, marks, words, bitmap, frame);
         Returned {
             machine: self,
             answer,
         }
     }
 
-    // A new area, where the request says or at the highest place that it can have. Its bitmap words become 0.
+    // A new area, where the request says or at the highest place that it can have. Its bitmap words become 0. The numbers of all areas are to
+    // be lent, since those of the new one are written among them.
     pub fn declare(
         self,
+        areas: &mut [u64],
         marks: &mut [u32],
         words: &mut [u64],
         bitmap: &mut [u64],
         request: Request,
     ) -> Returned
-        ensures { λ r. ⌜ Does (λ m. declare m request) self r marks words bitmap ⌝ }
+        ensures { λ r. ⌜ Does (withAllAreas (λ m. declare m request)) self areas r marks words bitmap ⌝ }
     {
-        let record = self.record;
-        let laid = setup::declare(record, marks, words, bitmap, request);
-        let record = laid.record;
+        let laid = setup::declare(self.memory, areas, marks, words, bitmap, request);
+        let memory = laid.memory;
         let answer = laid.answer;
-        let machine = Machine { record };
+        let machine = Machine { memory };
         Returned { machine, answer }
     }
 
-    // A new record, whatever the one given, with the areas of a regions text, and tables that are all zero.
+    // A new record, whatever the one given, with the areas of a regions text, and tables that are all zero. The numbers of all areas are to be
+    // lent, since it writes them all.
     pub fn boot(
         self,
+        areas: &mut [u64],
         marks: &mut [u32],
         words: &mut [u64],
         bitmap: &mut [u64],
@@ -343,11 +293,11 @@ impl Machine {
         block_order: u64,
         text: &[u8],
     ) -> Returned
-        ensures { λ r. ⌜ Does (λ m. boot m (base .0) frames «block_order» (now (text .entry))) self r marks words bitmap ⌝ }
+        ensures { λ r. ⌜ Does (withAllAreas (λ m. boot m (base .0) frames «block_order» (now (text .entry)))) self areas r marks words bitmap ⌝ }
     {
-        let record = self.record;
         let laid = setup::boot(
-            record,
+            self.memory,
+            areas,
             marks,
             words,
             bitmap,
@@ -356,47 +306,55 @@ impl Machine {
             block_order,
             text,
         );
-        let record = laid.record;
+        let memory = laid.memory;
         let answer = laid.answer;
-        let machine = Machine { record };
+        let machine = Machine { memory };
         Returned { machine, answer }
     }
 
-    // Any call. The text is a boot's, and no other call reads it.
+    // Any call. The text is a boot's, and no other call reads it. Since it may be a declare or a boot, the numbers of all areas are to
+    // be lent.
     pub fn perform(
         self,
+        areas: &mut [u64],
         marks: &mut [u32],
         words: &mut [u64],
         bitmap: &mut [u64],
         call: Call,
         text: &[u8],
     ) -> Returned
-        ensures { λ r. ⌜ Does (perform call (now (text .entry))) self r marks words bitmap ⌝ }
+        ensures { λ r. ⌜ Does (withAllAreas (perform call (now (text .entry)))) self areas r marks words bitmap ⌝ }
     {
+        if areas.len() != Record::AREA_NUMBERS {
+            return Returned {
+                machine: self,
+                answer: Answer::refused(refusal::WRONG_SHAPE),
+            };
+        }
         match call {
-            Call::PutMovable { name } => self.put_movable(marks, words, bitmap, name),
-            Call::PutFixed { name } => self.put_fixed(marks, words, bitmap, name),
-            Call::Drop { name } => self.drop_page(marks, words, bitmap, name),
-            Call::Pin { name } => self.pin_page(marks, words, bitmap, name),
-            Call::Unpin { name } => self.unpin_page(marks, words, bitmap, name),
-            Call::Store { name, word } => self.store_page(marks, words, bitmap, name, word),
-            Call::Read { name } => self.read_page(marks, words, bitmap, name),
+            Call::PutMovable { name } => self.put_movable(areas, marks, words, bitmap, name),
+            Call::PutFixed { name } => self.put_fixed(areas, marks, words, bitmap, name),
+            Call::Drop { name } => self.drop_page(areas, marks, words, bitmap, name),
+            Call::Pin { name } => self.pin_page(areas, marks, words, bitmap, name),
+            Call::Unpin { name } => self.unpin_page(areas, marks, words, bitmap, name),
+            Call::Store { name, word } => self.store_page(areas, marks, words, bitmap, name, word),
+            Call::Read { name } => self.read_page(areas, marks, words, bitmap, name),
             Call::Grant { area, count, align } => {
-                self.grant(marks, words, bitmap, area, count, align)
+                self.grant(areas, marks, words, bitmap, area, count, align)
             }
             Call::Release { area, frame, count } => {
-                self.release(marks, words, bitmap, area, frame, count)
+                self.release(areas, marks, words, bitmap, area, frame, count)
             }
             Call::DeviceStore { frame, word } => {
-                self.device_store(marks, words, bitmap, frame, word)
+                self.device_store(areas, marks, words, bitmap, frame, word)
             }
-            Call::DeviceRead { frame } => self.device_read(marks, words, bitmap, frame),
-            Call::Declare { request } => self.declare(marks, words, bitmap, request),
+            Call::DeviceRead { frame } => self.device_read(areas, marks, words, bitmap, frame),
+            Call::Declare { request } => self.declare(areas, marks, words, bitmap, request),
             Call::Boot {
                 base,
                 frames,
                 block_order,
-            } => self.boot(marks, words, bitmap, base, frames, block_order, text),
+            } => self.boot(areas, marks, words, bitmap, base, frames, block_order, text),
         }
     }
 }

@@ -10,14 +10,15 @@ use mathlib.Core.List.{List}
 use lib.ListN.{length, set}
 use borrow.Author.Tests.{lt-ltb, le-ltb, eq-eqb, ne-eqb}
 use Rattle.search.specs.Choice.{if_then_else_}
-use Rattle.search.specs.Search.{lowest, lowestFrom}
+use Rattle.search.specs.Search.{lowest}
 use Rattle.search.proofs.Bools.{by-cases, or-neither, or-left-true, or-right-true}
-use Rattle.search.proofs.Lowest.{lowest-start, found-cong, found-low}
+use Rattle.search.proofs.Lowest.{found-cong, found-low}
 use Rattle.answer.specs.Answers.{done}
 use Rattle.frames.specs.declared.Frame.{Frame}
 use Rattle.frames.specs.declared.Place.{Place}
 use Rattle.frames.specs.Units.{mostNumber, frame, place}
 use Rattle.frames.specs.Marks.{hasKind, markOf, free, movable}
+use Rattle.frames.specs.Areas.{mostAreas}
 use Rattle.frames.specs.Scans.{marked, isFreeOrdinary}
 use Rattle.frames.specs.Tables.{Tables, tables, markAt, setPage, fill}
 use Rattle.rules.specs.declared.Record.{Record}
@@ -34,15 +35,19 @@ use Rattle.page_calls.proofs.Looks.{frame-inside, looked-missing, looke
 -- ---- the place
 module _ (m : Record) (t : Tables) (shape : shapeRight m t ≡ true) where
   abbrev ordinaryScan : Place
-  ordinaryScan = place (lowestFrom (isFreeOrdinary (t .marks) (m .memory .base) (m .areas) (m .memory .declared)) 0 (length (t .marks) - 0))
+  ordinaryScan = place (lowest (isFreeOrdinary (t .marks) (m .memory .base) (m .areas) (min (m .memory .declared) mostAreas)) (length (t .marks)))
 
   lengths : length (t .marks) ≡ m .memory .frames
   lengths = shape-known m t shape .marks-length
 
+  -- no more areas are declared than a record has
+  few : min (m .memory .declared) mostAreas ≡ m .memory .declared
+  few = omega (arith, shape-known m t shape .declared-high)
+
   scan-ordinary : ordinaryScan ≡ lowestPlace m (freeOrdinary m t)
   unfolding isFreeOrdinary freeOrdinary
   scan-ordinary =
-      ap place (sym (lowest-start (isFreeOrdinary (t .marks) (m .memory .base) (m .areas) (m .memory .declared)) (length (t .marks)))) ∙
+      ap (λ (n : ℕ). place (lowest (isFreeOrdinary (t .marks) (m .memory .base) (m .areas) n) (length (t .marks)))) few ∙
       ap (λ (n : ℕ). place (lowest (λ i. freeOrdinary m t (place i)) n)) lengths
 
   -- the definition's choice between two places

@@ -83,7 +83,7 @@ fn put_at(
     requires { ⌜ shapeRight (recordWith memory (now areas)) (lentNow marks words bitmap) ≡ true ⌝ }
     ensures { λ r. ⌜ r ≡ putAt kind (given memory areas) (entering marks words bitmap) ⌝ }
 {
-    let ordinary = find_free_ordinary(marks, memory.base, areas, memory.declared, Place(0));
+    let ordinary = find_free_ordinary(marks, memory.base, areas, memory.declared);
     if ordinary.0 < marks.len() {
         return ordinary;
     }

@@ -12,11 +12,15 @@ use Rattle.search.proofs.Bools.{or-right-true}
 use Rattle.frames.specs.Tables.{Tables, tables}
 use Rattle.rules.specs.declared.Call.{Call}
 use Rattle.rules.specs.declared.Call.the-variants as Call
+use Rattle.rules.specs.declared.Memory.{Memory}
 use Rattle.rules.specs.declared.Record.{Record}
 use Rattle.answer.specs.declared.Answer.{Answer}
 use Rattle.rules.proofs.Call.{the-type}
 use Rattle.rules.specs.Outcomes.{Outcome, outcome, refuse}
 use Rattle.rules.specs.Calls.{perform}
+use Rattle.rules.specs.Does.{withAllAreas}
+use Rattle.rules.specs.Limits.{mostAreaNumbers}
+use Rattle.setup.proofs.AllAreas.{asked}
 use Rattle.playback.specs.Playback.{framesFor, entriesFor, withEntries, answerTo}
 use lib.Dec.{ltb}
 use denote.Enum.Declared.{tagOf}
@@ -26,39 +30,39 @@ use types.Run.{OneOf, miss}
 abbrev others : List ℕ
 others = 0 ∷ 1 ∷ 2 ∷ 3 ∷ 4 ∷ 5 ∷ 6 ∷ 7 ∷ 8 ∷ 9 ∷ 10 ∷ 11 ∷ []
 
-pub not-boot : (m : Record) (call : Call) → OneOf others (tagOf the-type call) → framesFor m call ≡ m .memory .frames
+pub not-boot : (memory : Memory) (call : Call) → OneOf others (tagOf the-type call) → framesFor memory call ≡ memory .frames
 unfolding framesFor
-not-boot m (Call.PutMovable name) h = refl
-not-boot m (Call.PutFixed name) h = refl
-not-boot m (Call.Drop name) h = refl
-not-boot m (Call.Pin name) h = refl
-not-boot m (Call.Unpin name) h = refl
-not-boot m (Call.Store name word) h = refl
-not-boot m (Call.Read name) h = refl
-not-boot m (Call.Grant area count align) h = refl
-not-boot m (Call.Release area frame count) h = refl
-not-boot m (Call.DeviceStore frame word) h = refl
-not-boot m (Call.DeviceRead frame) h = refl
-not-boot m (Call.Declare request) h = refl
-not-boot m (Call.Boot base frames blockOrder) h = absurd (miss others 12 tt h)
+not-boot memory (Call.PutMovable name) h = refl
+not-boot memory (Call.PutFixed name) h = refl
+not-boot memory (Call.Drop name) h = refl
+not-boot memory (Call.Pin name) h = refl
+not-boot memory (Call.Unpin name) h = refl
+not-boot memory (Call.Store name word) h = refl
+not-boot memory (Call.Read name) h = refl
+not-boot memory (Call.Grant area count align) h = refl
+not-boot memory (Call.Release area frame count) h = refl
+not-boot memory (Call.DeviceStore frame word) h = refl
+not-boot memory (Call.DeviceRead frame) h = refl
+not-boot memory (Call.Declare request) h = refl
+not-boot memory (Call.Boot base frames blockOrder) h = absurd (miss others 12 tt h)
 
 module _ (call : Call) (m : Record) (t : Tables) where
-  pub few-marks : length (t .marks) < framesFor m call → answerTo call m t ≡ refuse m t 1
+  pub few-marks : length (t .marks) < framesFor (m .memory) call → answerTo call m t ≡ refuse m t 1
   unfolding answerTo
-  few-marks h = rw (lt-ltb (length (t .marks)) (framesFor m call) h)
+  few-marks h = rw (lt-ltb (length (t .marks)) (framesFor (m .memory) call) h)
 
-  pub few-words : length (t .words) < framesFor m call → answerTo call m t ≡ refuse m t 1
+  pub few-words : length (t .words) < framesFor (m .memory) call → answerTo call m t ≡ refuse m t 1
   unfolding answerTo
-  few-words h = rw (or-right-true (ltb (length (t .marks)) (framesFor m call)) (ltb (length (t .words)) (framesFor m call)) (lt-ltb (length (t .words)) (framesFor m call) h))
+  few-words h = rw (or-right-true (ltb (length (t .marks)) (framesFor (m .memory) call)) (ltb (length (t .words)) (framesFor (m .memory) call)) (lt-ltb (length (t .words)) (framesFor (m .memory) call) h))
 
   abbrev made : Outcome
-  made = perform call [] m (entriesFor (framesFor m call) t)
+  made = perform call [] m (entriesFor (framesFor (m .memory) call) t)
 
   pub enough :
-      framesFor m call ≤ length (t .marks) → framesFor m call ≤ length (t .words)
-      → answerTo call m t ≡ outcome (made .machine) (made .answer) (withEntries (framesFor m call) t (made .left))
+      framesFor (m .memory) call ≤ length (t .marks) → framesFor (m .memory) call ≤ length (t .words)
+      → answerTo call m t ≡ outcome (made .machine) (made .answer) (withEntries (framesFor (m .memory) call) t (made .left))
   unfolding answerTo
-  enough h k = rw (le-ltb (length (t .marks)) (framesFor m call) h, le-ltb (length (t .words)) (framesFor m call) k)
+  enough h k = rw (le-ltb (length (t .marks)) (framesFor (m .memory) call) h, le-ltb (length (t .words)) (framesFor (m .memory) call) k)
 
   abbrev around : ℕ → Outcome
   around n =
@@ -67,10 +71,11 @@ module _ (call : Call) (m : Record) (t : Tables) where
 
   pub answered :
       (n : ℕ) (after : Record) (r : Answer) (marks words bitmap : List ℕ)
-      → n ≡ framesFor m call → n ≤ length (t .marks) → n ≤ length (t .words)
-      → outcome after r (tables marks words bitmap) ≡ perform call [] m (entriesFor n t)
+      → length (m .areas) ≡ mostAreaNumbers
+      → n ≡ framesFor (m .memory) call → n ≤ length (t .marks) → n ≤ length (t .words)
+      → outcome after r (tables marks words bitmap) ≡ withAllAreas (perform call []) m (entriesFor n t)
       → outcome after r (tables (marks ++ drop n (t .marks)) (words ++ drop n (t .words)) bitmap) ≡ answerTo call m t
-  answered n after r marks words bitmap e h k made-it =
-      ap (λ (w : Outcome). outcome (w .machine) (w .answer) (withEntries n t (w .left))) made-it
+  answered n after r marks words bitmap all e h k made-it =
+      ap (λ (w : Outcome). outcome (w .machine) (w .answer) (withEntries n t (w .left))) (made-it ∙ sym (asked (perform call []) m (entriesFor n t) all))
       ∙ ap (λ (f : ℕ). around f) e
       ∙ sym (enough (rw e at h) (rw e at k))

@@ -57,7 +57,7 @@ module _ (bytes : List ℕ) where
   up-to (suc more) s h k =
       below-or-not (s .progress .at) (length bytes)
       (λ l.
-      by-cases (hasRoomFor (length (s .out)) (s .progress))
+      by-cases (hasRoomFor (length (s .out)) (s .progress .text) (s .progress .step))
       (λ y.
       rw (lt-leb (length bytes) (s .progress .at) l, y)
       (follows (decodeAt bytes (s .progress .at)) s (answerUpTo more bytes) refl h k (up-to more)))

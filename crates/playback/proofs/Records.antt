@@ -19,6 +19,7 @@ use Rattle.frames.specs.Tables.{Tables, tables}
 use Rattle.machine.specs.declared.Returned.{Returned}
 use Rattle.rules.specs.declared.Call.{Call}
 use Rattle.rules.specs.Outcomes.{Outcome, outcome}
+use Rattle.rules.specs.Does.{recordWith}
 use Rattle.records.specs.declared.Decoded.{Decoded}
 use Rattle.records.specs.declared.Decoded.the-variants.{Whole, Unknown, Cut}
 use Rattle.records.specs.Records.{decodeAt}
@@ -28,41 +29,41 @@ use Rattle.records.proofs.Texts.{line-most}
 use Rattle.records.proofs.Decoding.{whole-within}
 use Rattle.playback.specs.declared.Progress.{Progress}
 use Rattle.playback.specs.declared.Stop.the-variants as Stop
-use Rattle.playback.specs.Playback.{answerTo, hasRoomFor, room, lastStep, Playing, playing, lineFor, machineHolding, progressAfter, answerOne, stopFor, followed, answerUpTo, answerRecords}
+use Rattle.playback.specs.Playback.{answerTo, hasRoomFor, room, lastStep, Playing, playing, lineFor, progressAfter, answerOne, stopFor, followed, answerUpTo, answerRecords}
 
 -- ---- one record
 
 -- the room for a line, and the step after it
-pub room-left : (size : ℕ) (p : Progress) → hasRoomFor size p ≡ true → p .text + room ≤ size
+pub room-left : (size text step : ℕ) → hasRoomFor size text step ≡ true → text + room ≤ size
 unfolding hasRoomFor
-room-left size p h = leb-true (p .text + room) size (and-left (leb (p .text + room) size) (ltb (p .step) lastStep) h)
+room-left size text step h = leb-true (text + room) size (and-left (leb (text + room) size) (ltb step lastStep) h)
 
-pub step-left : (size : ℕ) (p : Progress) → hasRoomFor size p ≡ true → p .step < lastStep
+pub step-left : (size text step : ℕ) → hasRoomFor size text step ≡ true → step < lastStep
 unfolding hasRoomFor
-step-left size p h = ltb-true (p .step) lastStep (and-right (leb (p .text + room) size) (ltb (p .step) lastStep) h)
+step-left size text step h = ltb-true step lastStep (and-right (leb (text + room) size) (ltb step lastStep) h)
 
-pub line-has-room : (out : List ℕ) (p : Progress) (a b c : ℕ) → hasRoomFor (length out) p ≡ true → hasRoom out (p .text) (lineOf (p .step) a b c) ≡ true
+pub line-has-room : (out : List ℕ) (p : Progress) (a b c : ℕ) → hasRoomFor (length out) (p .text) (p .step) ≡ true → hasRoom out (p .text) (lineOf (p .step) a b c) ≡ true
 unfolding hasRoom
 line-has-room out p a b c h =
-    let l = room-left (length out) p h in
+    let l = room-left (length out) (p .text) (p .step) h in
     le-leb (p .text + length (lineOf (p .step) a b c)) (length out) (omega (arith, line-most (p .step) a b c))
 
 after-line : (p : Progress) (size next : ℕ) (after : List ℕ) (o : Outcome) → Playing
-after-line p size next after o = playing (record { machine = machineHolding (o .machine); at = p .at + size; text = next; step = p .step + 1 }) after (o .left)
+after-line p size next after o = playing (record { «record» = o .machine; at = p .at + size; text = next; step = p .step + 1 }) after (o .left)
 
 pub one-answered :
-    (p : Progress) (out : List ℕ) (t : Tables) (r : Call) (size : ℕ) (o : Returned) (marks words bitmap after : List ℕ) (next : ℕ)
-    → hasRoomFor (length out) p ≡ true
-    → outcome (o .machine .«record») (o .answer) (tables marks words bitmap) ≡ answerTo r (p .machine .«record») t
+    (p : Progress) (out : List ℕ) (t : Tables) (r : Call) (size : ℕ) (o : Returned) (areas marks words bitmap after : List ℕ) (next : ℕ)
+    → hasRoomFor (length out) (p .text) (p .step) ≡ true
+    → outcome (recordWith (o .machine .memory) areas) (o .answer) (tables marks words bitmap) ≡ answerTo r (p .«record») t
     → Appended out (p .text) (lineOf (p .step) (o .answer .refusal) (o .answer .first) (o .answer .second)) after next
-    → playing (record { machine = o .machine; at = p .at + size; text = next; step = p .step + 1 }) after (tables marks words bitmap)
+    → playing (record { «record» = recordWith (o .machine .memory) areas; at = p .at + size; text = next; step = p .step + 1 }) after (tables marks words bitmap)
     ≡ answerOne (playing p out t) r size
 unfolding answerOne after-line
-one-answered p out t r size o marks words bitmap after next h e a =
+one-answered p out t r size o areas marks words bitmap after next h e a =
     let fits = line-has-room out p (o .answer .refusal) (o .answer .first) (o .answer .second) h in
     let place = rw fits at (a .place) in
     let bytes = rw fits at (a .bytes) in
-    let made = outcome (o .machine .«record») (o .answer) (tables marks words bitmap) in
+    let made = outcome (recordWith (o .machine .memory) areas) (o .answer) (tables marks words bitmap) in
     ap (λ (n : ℕ). after-line p size n after made) place
     ∙ ap (λ (l : List ℕ). after-line p size (p .text + length (lineFor (p .step) (o .answer))) l made) bytes
     ∙ ap (λ (w : Outcome). playing (progressAfter p w size) (written out (p .text) (lineFor (p .step) (w .answer))) (w .left)) e
@@ -93,13 +94,13 @@ module _ (bytes : List ℕ) (start : Playing) where
 
   fills :
       (more : ℕ) (s : Playing) → length bytes ≤ s .progress .at + more → s .progress .at < length bytes
-      → hasRoomFor (length (s .out)) (s .progress) ≡ false → answerUpTo more bytes s ≡ stopFor Stop.Full s
+      → hasRoomFor (length (s .out)) (s .progress .text) (s .progress .step) ≡ false → answerUpTo more bytes s ≡ stopFor Stop.Full s
   unfolding answerUpTo
   fills zero s l h n = absurd (omega arith)
   fills (suc more) s l h n = rw (lt-leb (length bytes) (s .progress .at) h, n)
 
   pub full :
-      (s : Playing) → Same s → s .progress .at < length bytes → hasRoomFor (length (s .out)) (s .progress) ≡ false
+      (s : Playing) → Same s → s .progress .at < length bytes → hasRoomFor (length (s .out)) (s .progress .text) (s .progress .step) ≡ false
       → answerRecords bytes start ≡ stopFor Stop.Full s
   full s i h n = i .same ∙ fills (i .more) s (i .enough) h n
 
@@ -110,13 +111,13 @@ module _ (bytes : List ℕ) (start : Playing) where
 
   turns :
       (more : ℕ) (s : Playing) → length bytes ≤ s .progress .at + more → s .progress .at < length bytes
-      → hasRoomFor (length (s .out)) (s .progress) ≡ true → answerRecords bytes start ≡ answerUpTo more bytes s → Turn s
+      → hasRoomFor (length (s .out)) (s .progress .text) (s .progress .step) ≡ true → answerRecords bytes start ≡ answerUpTo more bytes s → Turn s
   unfolding answerUpTo
   turns zero s l h n e = absurd (omega arith)
   turns (suc more) s l h n e =
       record { more = more; enough = omega arith; same = rw (lt-leb (length bytes) (s .progress .at) h, n) at e }
 
-  pub turn : (s : Playing) → Same s → s .progress .at < length bytes → hasRoomFor (length (s .out)) (s .progress) ≡ true → Turn s
+  pub turn : (s : Playing) → Same s → s .progress .at < length bytes → hasRoomFor (length (s .out)) (s .progress .text) (s .progress .step) ≡ true → Turn s
   turn s i h n = turns (i .more) s (i .enough) h n (i .same)
 
   pub unknown : (s : Playing) → Turn s → decodeAt bytes (s .progress .at) ≡ Unknown → answerRecords bytes start ≡ stopFor Stop.Unknown s

@@ -27,16 +27,16 @@ soFar s = take (s .progress .text) (s .out)
 
 -- the lines that are left, at most so many
 abbrev left : ℕ → List ℕ → Playing → List ℕ
-left more bytes s = linesUpTo more bytes (s .progress .at) (s .progress .step) (s .progress .machine .«record») (s .left)
+left more bytes s = linesUpTo more bytes (s .progress .at) (s .progress .step) (s .progress .«record») (s .left)
 
 -- a record's line comes after the text so far
 one-line :
     (s : Playing) (r : Call) (n : ℕ) → s .progress .text ≤ length (s .out)
-    → soFar (answerOne s r n) ≡ soFar s ++ lineFor (s .progress .step) (answerTo r (s .progress .machine .«record») (s .left) .answer)
+    → soFar (answerOne s r n) ≡ soFar s ++ lineFor (s .progress .step) (answerTo r (s .progress .«record») (s .left) .answer)
 unfolding answerOne written
 one-line s r n h =
     let p = s .progress in
-    let line = lineFor (p .step) (answerTo r (p .machine .«record») (s .left) .answer) in
+    let line = lineFor (p .step) (answerTo r (p .«record») (s .left) .answer) in
     take-at (soFar s ++ line) (drop (p .text + length line) (s .out)) (p .text + length line) (simp (length-append, length-take) (omega arith))
 
 module _ (bytes : List ℕ) (more : ℕ) where
@@ -45,7 +45,7 @@ module _ (bytes : List ℕ) (more : ℕ) where
   Kept s end = end .stopped .why ≢ Stop.Full → textOf end ≡ soFar s ++ left more bytes s
 
   abbrev followedBy : Decoded → Playing → List ℕ
-  followedBy d s = linesAfter d (s .progress .at) (s .progress .step) (s .progress .machine .«record») (s .left) (linesUpTo more bytes)
+  followedBy d s = linesAfter d (s .progress .at) (s .progress .step) (s .progress .«record») (s .left) (linesUpTo more bytes)
 
   follows :
       (d : Decoded) (s : Playing) → s .progress .text ≤ length (s .out)
@@ -54,7 +54,7 @@ module _ (bytes : List ℕ) (more : ℕ) where
       → textOf (followed d s (answerUpTo more bytes)) ≡ soFar s ++ followedBy d s
   unfolding answerOne
   follows (Whole r n) s h rest e =
-      let line = lineFor (s .progress .step) (answerTo r (s .progress .machine .«record») (s .left) .answer) in
+      let line = lineFor (s .progress .step) (answerTo r (s .progress .«record») (s .left) .answer) in
       rest (answerOne s r n) (one-text s r n h) e
       ∙ ap (λ (l : List ℕ). l ++ left more bytes (answerOne s r n)) (one-line s r n h)
       ∙ append-assoc (soFar s) line (left more bytes (answerOne s r n))
@@ -67,7 +67,7 @@ up-to bytes zero s h = λ e. refl
 up-to bytes (suc more) s h =
     below-or-not (s .progress .at) (length bytes)
     (λ l.
-    by-cases (hasRoomFor (length (s .out)) (s .progress))
+    by-cases (hasRoomFor (length (s .out)) (s .progress .text) (s .progress .step))
     (λ y. rw (lt-leb (length bytes) (s .progress .at) l, y) (follows bytes more (decodeAt bytes (s .progress .at)) s h (up-to bytes more)))
     (λ n. rw (lt-leb (length bytes) (s .progress .at) l, n) (λ e. absurd (e refl))))
     (λ l. rw (le-leb (length bytes) (s .progress .at) l) (λ e. refl))

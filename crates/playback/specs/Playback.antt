@@ -9,11 +9,11 @@ use Rattle.answer.specs.declared.Answer.{Answer}
 use Rattle.frames.specs.Units.{mostNumber}
 use Rattle.frames.specs.Tables.{Tables, tables}
 use Rattle.rules.specs.declared.Call.{Call}
+use Rattle.rules.specs.declared.Memory.{Memory}
 use Rattle.rules.specs.declared.Record.{Record}
 use Rattle.rules.specs.Outcomes.{Outcome, outcome, refuse}
 use Rattle.rules.specs.Calls.{perform}
 use Rattle.rules.specs.ledger.Roles.{roleOf}
-use Rattle.machine.specs.declared.Machine.{Machine}
 use Rattle.records.specs.declared.Decoded.{Decoded}
 use Rattle.records.specs.declared.Decoded.the-variants.{Whole, Unknown, Cut}
 use Rattle.records.specs.Records.{decodeAt}
@@ -27,8 +27,8 @@ use Rattle.playback.specs.declared.Stopped.{Stopped}
 -- ---- one record
 
 -- how many frames the tables are lent for: a boot's own, else the machine's
-unfoldable pub framesFor : Record → Call → ℕ
-framesFor m call = roleOf call .frames (m .memory .frames)
+unfoldable pub framesFor : Memory → Call → ℕ
+framesFor memory call = roleOf call .frames (memory .frames)
 
 -- the entries of marks and words that are lent, and the whole bitmap
 abbrev pub entriesFor : ℕ → Tables → Tables
@@ -42,7 +42,7 @@ withEntries n t left = tables (left .marks ++ drop n (t .marks)) (left .words ++
 -- boot has the empty text
 unfoldable pub answerTo : Call → Record → Tables → Outcome
 answerTo call m t =
-    let n = framesFor m call in
+    let n = framesFor (m .memory) call in
     let o = perform call [] m (entriesFor n t) in
     if ltb (length (t .marks)) n || ltb (length (t .words)) n then refuse m t 1
     else outcome (o .machine) (o .answer) (withEntries n t (o .left))
@@ -57,9 +57,9 @@ room = 128
 abbrev pub lastStep : ℕ
 lastStep = mostNumber
 
--- another line can be written after the text, in an output of a size, and its step counted
-unfoldable pub hasRoomFor : ℕ → Progress → Bool
-hasRoomFor size p = leb (p .text + room) size && ltb (p .step) lastStep
+-- another line can be written after a text, in an output of a size, and its step counted
+unfoldable pub hasRoomFor : ℕ → ℕ → ℕ → Bool
+hasRoomFor size text step = leb (text + room) size && ltb step lastStep
 
 -- how far the records are answered, the output, and the tables
 pub record Playing : Type 0 where
@@ -74,19 +74,15 @@ playing p out t = record { progress = p; out = out; left = t }
 abbrev pub lineFor : ℕ → Answer → List ℕ
 lineFor step a = lineOf step (a .refusal) (a .first) (a .second)
 
--- the machine of a record
-abbrev pub machineHolding : Record → Machine
-machineHolding m = record { «record» = m }
-
 -- after a record of a size: its call is made, its line written, and its step counted
 abbrev pub progressAfter : Progress → Outcome → ℕ → Progress
 progressAfter p o size =
-    record { machine = machineHolding (o .machine); at = p .at + size; text = p .text + length (lineFor (p .step) (o .answer)); step = p .step + 1 }
+    record { «record» = o .machine; at = p .at + size; text = p .text + length (lineFor (p .step) (o .answer)); step = p .step + 1 }
 
 unfoldable pub answerOne : Playing → Call → ℕ → Playing
 answerOne s call size =
     let p = s .progress in
-    let o = answerTo call (p .machine .«record») (s .left) in
+    let o = answerTo call (p .«record») (s .left) in
     playing (progressAfter p o size) (written (s .out) (p .text) (lineFor (p .step) (o .answer))) (o .left)
 
 -- what is left when no more records are answered, and why
@@ -116,7 +112,7 @@ unfoldable pub answerUpTo : ℕ → List ℕ → Playing → Played
 answerUpTo zero bytes s = stopFor Stop.All s
 answerUpTo (suc more) bytes s =
     if leb (length bytes) (s .progress .at) then stopFor Stop.All s
-    else if not (hasRoomFor (length (s .out)) (s .progress)) then stopFor Stop.Full s
+    else if not (hasRoomFor (length (s .out)) (s .progress .text) (s .progress .step)) then stopFor Stop.Full s
     else followed (decodeAt bytes (s .progress .at)) s (answerUpTo more bytes)
 
 -- all the records of some bytes: there are fewer of them than bytes

@@ -17,14 +17,14 @@ use Rattle.records.specs.Lines.{heading, badLine, endLine}
 use Rattle.playback.specs.declared.Progress.{Progress}
 use Rattle.playback.specs.declared.Stop.{Stop}
 use Rattle.playback.specs.declared.Stop.the-variants as Stop
-use Rattle.playback.specs.Playback.{answerTo, lineFor, machineHolding, playing, Played, answerRecords}
+use Rattle.playback.specs.Playback.{answerTo, lineFor, playing, Played, answerRecords}
 
 -- how many frames the program holds, and how many bitmap words it lends
 abbrev pub heldFrames : ℕ
 heldFrames = 2048
 
 abbrev pub heldBitmapWords : ℕ
-heldBitmapWords = 40
+heldBitmapWords = 96
 
 -- what is found at an offset: a whole record has its line, and then come the lines that follow; an unknown kind or a cut body has `bad`
 -- with the offset
@@ -69,7 +69,7 @@ textOf end = let p = end .stopped .progress in take (p .text) (end .out) ++ last
 
 -- at the start: a fresh machine, and the heading in the buffer
 abbrev pub fresh : Progress
-fresh = record { machine = machineHolding freshRecord; at = 0; text = length heading; step = 0 }
+fresh = record { «record» = freshRecord; at = 0; text = length heading; step = 0 }
 
 -- where the buffer never was too full, the records answered from the start on give the whole output
 abbrev pub WholeOutput : Type 0

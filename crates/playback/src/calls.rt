@@ -1,6 +1,8 @@
 // The call of a record, made on the tables that a replay holds.
 ghost use mathlib.Core.Path.{_≡_};
+ghost use lib.ListN.{length};
 ghost use Rattle.answer.specs.Answers.{refused};
+ghost use Rattle.rules.specs.Limits.{mostAreaNumbers};
 ghost use Rattle.machine.specs.Does.{Does};
 ghost use Rattle.playback.specs.Playback.{framesFor, answerTo};
 use answer::Answer;
@@ -21,7 +23,7 @@ fn wrong_shape(machine: Machine) -> Returned
 
 // How many frames the tables are lent for: a boot's own, and for any other call those of the machine.
 fn frames_for(machine: Machine, call: Call) -> u64
-    ensures { λ r. ⌜ r ≡ framesFor (machine .«record») call ⌝ }
+    ensures { λ r. ⌜ r ≡ framesFor (machine .memory) call ⌝ }
 {
     match call {
         Call::Boot {
@@ -29,20 +31,22 @@ fn frames_for(machine: Machine, call: Call) -> u64
             frames,
             block_order: _,
         } => frames,
-        _ => machine.record.memory.frames,
+        _ => machine.memory.frames,
     }
 }
 
 // A call, lent an entry of marks and words for each frame. A boot that asks for more frames than the tables hold is refused; a machine
 // never has more, since no such boot was accepted.
-pub fn answer(
+pub(crate) fn answer(
+    areas: &mut [u64],
     marks: &mut [u32],
     words: &mut [u64],
     bitmap: &mut [u64],
     machine: Machine,
     call: Call,
 ) -> Returned
-    ensures { λ r. ⌜ Does (answerTo call) machine r marks words bitmap ⌝ }
+    requires { ⌜ length (now areas) ≡ mostAreaNumbers ⌝ }
+    ensures { λ r. ⌜ Does (answerTo call) machine areas r marks words bitmap ⌝ }
 {
     let frames = frames_for(machine, call);
     if (marks.len() as u64) < frames {
@@ -52,5 +56,5 @@ pub fn answer(
         return wrong_shape(machine);
     }
     let n = frames as usize;
-    machine.perform(&mut marks[0..n], &mut words[0..n], bitmap, call, b"")
+    machine.perform(areas, &mut marks[0..n], &mut words[0..n], bitmap, call, b"")
 }

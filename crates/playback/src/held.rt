@@ -5,7 +5,7 @@ ghost use Rattle.playback.specs.Replay.{heldFrames, heldBitmapWords};
 
 const FRAMES: usize = 2048;
 
-const BITMAP_WORDS: usize = 40;
+const BITMAP_WORDS: usize = 96;
 
 pub fn marks() -> [u32; FRAMES]
     ensures { λ r. ⌜ r ≡ replicate heldFrames 0 ⌝ }

@@ -5,16 +5,19 @@ ghost use Prim.Native.Nat.{_+_, _≤_};
 ghost use lib.ListN.{length};
 ghost use Rattle.frames.specs.Units.{mostNumber};
 ghost use Rattle.frames.specs.Lent.{entering, leaving};
+ghost use Rattle.rules.specs.Limits.{mostAreaNumbers};
 ghost use Rattle.playback.specs.Playback.{stoppedAt, hasRoomFor, playing, answerOne, played, answerRecords};
+ghost use Rattle.playback.specs.steps.Going.{progressWith};
 
 mod calls;
 pub mod held;
 
-pub use calls::answer;
+use calls::answer;
 use machine::Machine;
 use records::Decoded;
 use records::lines;
 use rules::Call;
+use rules::Record;
 
 // The room that a step's line is given: it is enough for the longest, which has 84 bytes, and for the last line of an output after it,
 // which has at most 25.
@@ -23,13 +26,21 @@ const ROOM: usize = 128;
 // The last step that can be counted.
 const LAST_STEP: u64 = u64::MAX;
 
-// How far the records are answered: the machine, the place of the next record among the bytes, the length of the text so far, and the
-// number of records.
+// How far the records are answered: the machine's record, the place of the next replay record among the bytes, the length of the text so far,
+// and the number of replay records.
 pub struct Progress {
-    pub machine: Machine,
+    pub record: Record,
     pub at: usize,
     pub text: usize,
     pub step: u64,
+}
+
+// The same but for the numbers of the areas, which stay in one place from call to call: what each call hands on.
+struct Going {
+    machine: Machine,
+    at: usize,
+    text: usize,
+    step: u64,
 }
 
 // Why no more records were answered.
@@ -49,50 +60,54 @@ pub struct Stopped {
     pub why: Stop,
 }
 
-impl Progress {
-    // No more records are answered, for a reason.
-    fn stops(self, why: Stop) -> Stopped
-        ensures { λ r. ⌜ r ≡ stoppedAt self why ⌝ }
-    {
-        Stopped {
-            progress: self,
-            why,
-        }
-    }
+// No more records are answered, for a reason.
+fn stops(p: Going, areas: [u64; Record::AREA_NUMBERS], why: Stop) -> Stopped
+    ensures { λ r. ⌜ r ≡ stoppedAt (progressWith p areas) why ⌝ }
+{
+    let memory = p.machine.memory;
+    let record = Record { memory, areas };
+    let progress = Progress {
+        record,
+        at: p.at,
+        text: p.text,
+        step: p.step,
+    };
+    Stopped { progress, why }
 }
 
 // Another line can be written after the text, in an output of `size` bytes, and its step counted.
-fn has_room(size: usize, p: Progress) -> bool
-    ensures { λ r. ⌜ r ≡ hasRoomFor size p ⌝ }
+fn has_room(size: usize, text: usize, step: u64) -> bool
+    ensures { λ r. ⌜ r ≡ hasRoomFor size text step ⌝ }
 {
     if size < ROOM {
         return false;
     }
-    if size - ROOM < p.text {
+    if size - ROOM < text {
         return false;
     }
-    p.step < LAST_STEP
+    step < LAST_STEP
 }
 
 // One record of `size` bytes: its call is made, its line written, and its step counted.
 fn answer_one(
     out: &mut [u8],
+    areas: &mut [u64],
     marks: &mut [u32],
     words: &mut [u64],
     bitmap: &mut [u64],
-    p: Progress,
+    p: Going,
     call: Call,
     size: usize,
-) -> Progress
-    requires { ⌜ (hasRoomFor (length (now out)) p ≡ true) × (p .at + size ≤ mostNumber) ⌝ }
-    ensures { λ r. ⌜ playing r (now (out .exit)) (leaving marks words bitmap) ≡ answerOne (playing p (now (out .entry)) (entering marks words bitmap)) call size ⌝ }
+) -> Going
+    requires { ⌜ (hasRoomFor (length (now out)) (p .text) (p .step) ≡ true) × (p .at + size ≤ mostNumber) × (length (now areas) ≡ mostAreaNumbers) ⌝ }
+    ensures { λ r. ⌜ playing (progressWith r (now (areas .exit))) (now (out .exit)) (leaving marks words bitmap) ≡ answerOne (playing (progressWith p (now (areas .entry))) (now (out .entry)) (entering marks words bitmap)) call size ⌝ }
 {
     let before = p.machine;
-    let returned = answer(marks, words, bitmap, before, call);
+    let returned = answer(areas, marks, words, bitmap, before, call);
     let machine = returned.machine;
     let a = returned.answer;
     let text = lines::put_line(out, p.text, p.step, a.refusal, a.first, a.second);
-    Progress {
+    Going {
         machine,
         at: p.at + size,
         text,
@@ -111,24 +126,32 @@ pub fn answer_records(
 ) -> Stopped
     ensures { λ r. ⌜ played r (now (out .exit)) (leaving marks words bitmap) ≡ answerRecords (now (bytes .entry)) (playing start (now (out .entry)) (entering marks words bitmap)) ⌝ }
 {
-    let mut p = start;
+    let mut areas = start.record.areas;
+    let memory = start.record.memory;
+    let machine = Machine { memory };
+    let mut p = Going {
+        machine,
+        at: start.at,
+        text: start.text,
+        step: start.step,
+    };
     while p.at < bytes.len() {
-        if !has_room(out.len(), p) {
-            return p.stops(Stop::Full);
+        if !has_room(out.len(), p.text, p.step) {
+            return stops(p, areas, Stop::Full);
         }
         let at = p.at;
         let found = records::decode(bytes, at);
         match found {
             Decoded::Whole(call, size) => {
-                p = answer_one(out, marks, words, bitmap, p, call, size);
+                p = answer_one(out, &mut areas, marks, words, bitmap, p, call, size);
             }
             Decoded::Unknown => {
-                return p.stops(Stop::Unknown);
+                return stops(p, areas, Stop::Unknown);
             }
             Decoded::Cut => {
-                return p.stops(Stop::Cut);
+                return stops(p, areas, Stop::Cut);
             }
         }
     }
-    p.stops(Stop::All)
+    stops(p, areas, Stop::All)
 }

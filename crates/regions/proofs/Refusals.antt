@@ -1,5 +1,5 @@
 -- What a caller learns from the record that it is handed: a refusal of the text is never 0, so the record's first number tells the two cases apart. Assumes nothing.
---     sound-regions       each refusal's number is above 0, and at most eight regions are given
+--     sound-regions       each refusal's number is above 0, and at most `mostRegions` are given
 --     answer-refused      a number that is not 0 is the text's refusal, with its place
 --     answer-given        0: the regions held are those of the text
 use Prim.Native.Nat.{ℕ, zero, suc, _+_, _≤_, _<_}

@@ -52,10 +52,10 @@ region before s at =
     gives (record { name = at; length = n; size = bytes; start = from; alignment = to }) at₅
 
 abbrev pub mostText : ℕ
-mostText = 1024
+mostText = 8192
 
 abbrev pub mostRegions : ℕ
-mostRegions = 8
+mostRegions = 64
 
 -- regions with ; between them and one allowed at the end, of which so many more can be held
 unfoldable pub regionsFrom : ℕ → List Region → List ℕ → ℕ → Read (List Region)

@@ -13,10 +13,10 @@ mod parts;
 use list::Progress;
 
 // The longest text, in bytes.
-pub const MOST_TEXT: usize = 1024;
+pub const MOST_TEXT: usize = 8192;
 
 // How many regions a text may give.
-pub const MOST_REGIONS: usize = 8;
+pub const MOST_REGIONS: usize = 64;
 
 // A region of the text: where its name stands and how long it is, and its amounts in bytes; an amount that is not given is 0.
 pub struct Region {

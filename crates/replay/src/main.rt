@@ -8,11 +8,11 @@ ghost use lib.ListN.{length};
 ghost use Rattle.replay.specs.steps.Bounds.{block, Bounds, Next};
 use libc::STDIN_FILENO;
 use libc::STDOUT_FILENO;
-use machine::Machine;
 use playback::Progress;
 use playback::Stop;
 use playback::held;
 use records::lines;
+use rules::Record;
 
 // The bytes of a block of input, and of the text that is written for it at once.
 const BLOCK: usize = 65536;
@@ -23,7 +23,7 @@ const TURNS: u64 = 140737488355328;
 
 // What is kept from turn to turn.
 struct State {
-    machine: Machine,
+    record: Record,
     // The turns that are left; none when the program is done.
     left: u64,
     // How many bytes of the block are filled, and the place in it of the next record.
@@ -40,7 +40,7 @@ fn start() -> State
     ensures { λ r. ⌜ Bounds r ⌝ }
 {
     State {
-        machine: Machine::fresh(),
+        record: Record::fresh(),
         left: TURNS,
         filled: 0,
         at: 0,
@@ -55,9 +55,9 @@ fn done(s: State) -> State
     requires { ⌜ Bounds s ⌝ }
     ensures { λ r. ⌜ Next s r ⌝ }
 {
-    let machine = s.machine;
+    let record = s.record;
     State {
-        machine,
+        record,
         left: 0,
         filled: s.filled,
         at: s.at,
@@ -105,9 +105,9 @@ fn refill(input: &mut [u8], s: State) -> State
     let filled = s.filled;
     let kept = move_to_front(input, at, filled);
     let got = read_from(input, kept);
-    let machine = s.machine;
+    let record = s.record;
     State {
-        machine,
+        record,
         left: s.left,
         filled: kept + got,
         at: 0,
@@ -205,9 +205,9 @@ fn turn(
     ensures { λ r. ⌜ Bounds r × (r .left < s .left) ⌝ }
 {
     let filled = s.filled;
-    let before = s.machine;
+    let before = s.record;
     let from = Progress {
-        machine: before,
+        record: before,
         at: s.at,
         text: 0,
         step: s.step,
@@ -215,9 +215,9 @@ fn turn(
     let stopped = playback::answer_records(&input[0..filled], out, marks, words, bitmap, from);
     let p = stopped.progress;
     let why = stopped.why;
-    let machine = p.machine;
+    let record = p.record;
     let next = State {
-        machine,
+        record,
         left: s.left - 1,
         filled,
         at: p.at,

@@ -1,14 +1,20 @@
 -- How the contracts of the calls' code name what a call does. A function is lent a record's areas beside its memory, and the tables as slices:
 -- these terms and those of frames/specs/Lent are where the record and all tables stand together.
 use Prim.Native.Nat.{ℕ}
+use mathlib.Core.Bool.{Bool}
 use mathlib.Core.List.{List}
 use mathlib.Core.Path.{_≡_}
 use denote.Ref.{now}
+use lib.Dec.{eqb}
+use lib.ListN.{length}
+use Rattle.search.specs.Choice.{if_then_else_}
 use Rattle.answer.specs.declared.Answer.{Answer}
+use Rattle.answer.specs.Answers.{refusedAt}
 use Rattle.frames.specs.Tables.{Tables}
 use Rattle.frames.specs.Lent.{Slice, entering, leaving}
 use Rattle.rules.specs.declared.Memory.{Memory}
 use Rattle.rules.specs.declared.Record.{Record}
+use Rattle.rules.specs.Limits.{mostAreaNumbers}
 use Rattle.rules.specs.Outcomes.{Outcome, outcome}
 
 -- the record of a memory and the numbers of its areas
@@ -24,7 +30,15 @@ abbrev pub Answers : (Record → Tables → Outcome) → Memory → Slice → An
 Answers call memory areas r marks words bitmap =
     outcome (given memory areas) r (leaving marks words bitmap) ≡ call (given memory areas) (entering marks words bitmap)
 
--- a function that hands back a record and an answer does what a call does
-abbrev pub Returns : (Record → Tables → Outcome) → Record → Record → Answer → Slice → Slice → Slice → Type 0
-Returns call before after r marks words bitmap =
-    outcome after r (leaving marks words bitmap) ≡ call before (entering marks words bitmap)
+-- a function that hands back a memory and an answer does what a call does: it leaves the areas' numbers of the record where they were lent
+abbrev pub Returns : (Record → Tables → Outcome) → Memory → Slice → Memory → Answer → Slice → Slice → Slice → Type 0
+Returns call memory areas after r marks words bitmap =
+    outcome (recordWith after (now (areas .exit))) r (leaving marks words bitmap) ≡ call (given memory areas) (entering marks words bitmap)
+
+-- the numbers lent are those of all areas
+abbrev pub hasAllAreas : Record → Bool
+hasAllAreas m = eqb (length (m .areas)) mostAreaNumbers
+
+-- a call that may write among them: lent more of them or fewer, it is refused as the wrong shape
+unfoldable pub withAllAreas : (Record → Tables → Outcome) → Record → Tables → Outcome
+withAllAreas call m t = if hasAllAreas m then call m t else outcome m (refusedAt 1 0) t

@@ -1,12 +1,13 @@
 -- Document 01, "The machine and its neighbours", the first table: what is allowed. Byte amounts are `mostBytes` of text/specs/Numbers.
 use Prim.Native.Nat.{ℕ, _*_, _^_}
 use Rattle.frames.specs.Areas.{areaNumbers}
+use Rattle.frames.specs.Areas as Areas
 
 abbrev pub leastFrames : ℕ
 leastFrames = 1
 
 abbrev pub mostFrames : ℕ
-mostFrames = 65536
+mostFrames = 262144
 
 -- the first physical frame is at least 1, and the frame after the last at most 2^36
 abbrev pub leastBase : ℕ
@@ -19,7 +20,7 @@ abbrev pub mostBlockOrder : ℕ
 mostBlockOrder = 10
 
 abbrev pub mostAreas : ℕ
-mostAreas = 8
+mostAreas = Areas.mostAreas
 
 -- the numbers of all area records
 abbrev pub mostAreaNumbers : ℕ

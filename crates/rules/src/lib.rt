@@ -1,7 +1,7 @@
 // The plain data of a machine, the rules of document 01 as definitions over it, and what is proved of them: the promises in plain quantifiers,
 // and the ledger of demand 3 over every list of calls. The contracts of the crates above cite these definitions.
 ghost use mathlib.Core.Path.{_≡_};
-ghost use Rattle.rules.specs.Record.{freshRecord, bareRecord};
+ghost use Rattle.rules.specs.Record.{freshRecord};
 use frames::Area;
 use frames::Frame;
 
@@ -17,8 +17,8 @@ pub struct Memory {
     pub declared: u64,
 }
 
-// The machine record, which each call takes and hands back. The numbers of its areas are one flat array, so that a function can be lent them:
-// a slice of numbers is proved with no walk of the code, and a slice of structs is not.
+// The machine record, which each call takes and hands back: its memory by value, and the numbers of its areas lent, so that none is copied. They
+// are one flat array: a slice of numbers is proved with no walk of the code, and a slice of structs is not.
 pub struct Record {
     pub memory: Memory,
     pub areas: [u64; Record::AREA_NUMBERS],
@@ -28,7 +28,7 @@ impl Record {
     // The limits that a record and its calls keep to: document 01's first table.
     pub const LEAST_FRAMES: u64 = 1;
 
-    pub const MOST_FRAMES: u64 = 65536;
+    pub const MOST_FRAMES: u64 = 262144;
 
     pub const LEAST_BASE: u64 = 1;
 
@@ -36,7 +36,7 @@ impl Record {
 
     pub const MOST_BLOCK_ORDER: u64 = 10;
 
-    pub const MOST_AREAS: u64 = 8;
+    pub const MOST_AREAS: u64 = Area::MOST as u64;
 
     pub const LEAST_NAME: u64 = 1;
 
@@ -52,27 +52,20 @@ impl Record {
     // How many numbers the areas take, in use or not.
     pub const AREA_NUMBERS: usize = Record::MOST_AREAS as usize * Area::NUMBERS;
 
-    // A record with no areas: every area's numbers are zero.
-    pub fn bare(base: Frame, frames: u64, block_order: u64) -> Self
-        ensures { λ r. ⌜ r ≡ bareRecord (base .0) frames «block_order» ⌝ }
+    // All zeros, which is the wrong shape.
+    pub fn fresh() -> Self
+        ensures { λ r. ⌜ r ≡ freshRecord ⌝ }
     {
         let memory = Memory {
-            base,
-            frames,
-            block_order,
+            base: Frame(0),
+            frames: 0,
+            block_order: 0,
             declared: 0,
         };
         Self {
             memory,
             areas: [0; Record::AREA_NUMBERS],
         }
-    }
-
-    // All zeros, which is the wrong shape.
-    pub fn fresh() -> Self
-        ensures { λ r. ⌜ r ≡ freshRecord ⌝ }
-    {
-        Record::bare(Frame(0), 0, 0)
     }
 }
 

@@ -1,3 +1,4 @@
+pub mod AllAreas
 pub mod DeclareOutcomes
 pub mod Plans
 pub mod Starts

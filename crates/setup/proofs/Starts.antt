@@ -2,7 +2,7 @@
 --     clear-fill         zeros filled with zeros
 --     Grown, grown       what an accepted declaration leaves
 --     Planning           a loop that plans region i; planning-start, -stop, -few, -on, -end
---     boot-text          a boot on tables that are all zero
+--     boot-text          the record of a boot on tables that are all zero
 --     read-refused, read-given    the text's answer
 --     fill-all           a table that is filled is all one value
 --     boot-wrong, boot-refused, boot-done    what a boot does
@@ -16,9 +16,9 @@ use mathlib.Core.Path.{_≡_, refl, sym, ap, subst, _∙_}
 use lib.Dec.{eqb}
 use lib.ListN.{length, getD, set, take, drop, replicate, length-replicate, getD-replicate, drop-of-length-le, List·getD-eq-default}
 use lib.Seq.{ext-getD, drop-cons, getD-take}
-use borrow.Author.Tests.{eq-eqb, ne-eqb, not-true, not-false}
+use borrow.Author.Tests.{eq-eqb, eqb-true, ne-eqb, not-true, not-false}
 use Rattle.search.specs.Choice.{if_then_else_}
-use Rattle.search.proofs.Bools.{below-or-not, and-both, and-left, and-right}
+use Rattle.search.proofs.Bools.{by-cases, below-or-not, and-both, and-left, and-right}
 use Rattle.answer.specs.declared.Answer.{Answer}
 use Rattle.answer.specs.Answers.{done, refusedAt}
 use Rattle.frames.specs.declared.Area.{Area}
@@ -38,17 +38,17 @@ use Rattle.rules.specs.Record.{bareRecord}
 use Rattle.rules.specs.Shape.{memoryRight, lengthsRight, shapeRight}
 use Rattle.rules.specs.Outcomes.{Outcome, outcome, refuse}
 use Rattle.rules.specs.Declare.{withArea, declare}
+use Rattle.rules.specs.Does.{hasAllAreas, withAllAreas}
 use Rattle.rules.specs.Boot.{zeroTables, requestOf, declareAll, bootRecord, booted, boot}
 use Rattle.rules.proofs.BareShape.{bare-shape}
 use Rattle.rules.proofs.Placement.{declare-cases, declared-shape, declared-records}
 use Rattle.rules.proofs.ShapeFacts.{lengths-facts, shape-memory}
 use Rattle.rules.proofs.promises.Boots.{record-lengths}
 use Rattle.rules.proofs.ledger.BootCall.{Fine, boot-fine}
-use Rattle.setup.specs.declared.Laid.{Laid}
 use Rattle.setup.specs.declared.place.Plan.{Plan}
 use Rattle.setup.specs.declared.place.Plan.the-variants.{Made, Not}
 use Rattle.setup.specs.steps.Plan.{planTables, plan}
-use Rattle.setup.specs.steps.Boot.{clearTables, HandsBack}
+use Rattle.setup.specs.steps.Boot.{clearTables, Starts}
 use Rattle.setup.proofs.Plans.{plan-alike}
 use Rattle.setup.proofs.DeclareOutcomes.{declared, concluded, declare-plan, plan-few}
 
@@ -134,33 +134,33 @@ module _ (base frames order room : ℕ) (right : memoryRight base frames order �
         rest = refl;
       })
 
-  -- a boot on tables that are all zero
-  boot-text : (m : Record) (text : List ℕ) →
-      boot m base frames order text (clearTables frames room) ≡
-      booted m (clearTables frames room) (regions text then λ rs _. declareAll rs 0 (bareRecord base frames order) (clearTables frames room))
-  unfolding boot bootRecord
-  boot-text m text =
+  -- the record of a boot on tables that are all zero
+  boot-text : (text : List ℕ) →
+      bootRecord base frames order text (clearTables frames room) ≡
+      (regions text then λ rs _. declareAll rs 0 (bareRecord base frames order) (clearTables frames room))
+  unfolding bootRecord
+  boot-text text =
       rw bootable-clear
-      (ap (λ (t : Tables). booted m (clearTables frames room) (regions text then λ rs _. declareAll rs 0 (bareRecord base frames order) t)) (clear-zero frames room))
+      (ap (λ (t : Tables). regions text then λ rs _. declareAll rs 0 (bareRecord base frames order) t) (clear-zero frames room))
 
   -- ---- the text's answer
-  module _ (m : Record) (text : List ℕ) {r : Regions} (e : r ≡ resultOf (regions text)) where
-    abbrev follows : Read (List Region) → Outcome
-    follows x = booted m (clearTables frames room) (x then λ rs _. declareAll rs 0 (bareRecord base frames order) (clearTables frames room))
+  module _ (text : List ℕ) {r : Regions} (e : r ≡ resultOf (regions text)) where
+    abbrev follows : Read (List Region) → Read Record
+    follows x = x then λ rs _. declareAll rs 0 (bareRecord base frames order) (clearTables frames room)
 
     pub read-refused :
-        {answer : Answer} → (r .refusal ≡ 0 → ⊥) → answer ≡ refusedAt (r .refusal) (r .place) →
-        HandsBack (boot m base frames order text (clearTables frames room)) (record { «record» = m; answer = answer })
-    read-refused h k = rw (boot-text m text, answer-refused text r e h) (refl, k)
+        (m : Record) {answer : Answer} → (r .refusal ≡ 0 → ⊥) → answer ≡ refusedAt (r .refusal) (r .place) →
+        Starts (bootRecord base frames order text (clearTables frames room)) m answer
+    read-refused m h k = rw (boot-text text, answer-refused text r e h) k
 
     pub read-whole : r .refusal ≡ 0 → (length (held r) ≡ r .count) × (r .count ≤ mostRegions)
     read-whole h = let g = answer-given text r e h in (g .count, g .few)
 
     pub read-given :
-        {x : Laid} → r .refusal ≡ 0 →
-        HandsBack (booted m (clearTables frames room) (declareAll (held r) 0 (bareRecord base frames order) (clearTables frames room))) x →
-        HandsBack (boot m base frames order text (clearTables frames room)) x
-    read-given {x} h k = subst (λ (o : Outcome). HandsBack o x) (sym (boot-text m text ∙ ap follows (answer-given text r e h .is))) k
+        (m : Record) (answer : Answer) → r .refusal ≡ 0 → {first : Record} → first ≡ bareRecord base frames order →
+        Starts (declareAll (held r) 0 first (clearTables frames room)) m answer →
+        Starts (bootRecord base frames order text (clearTables frames room)) m answer
+    read-given m answer h b k = subst (λ (x : Read Record). Starts x m answer) (sym (boot-text text ∙ ap follows (answer-given text r e h .is))) (rw b at k)
 
 -- ---- a loop at region i
 module _
@@ -174,11 +174,11 @@ module _
     memory-right = shape-memory m t (s .shape)
 
     pub planning-end :
-        (given : Record) {bare : Record} {answer : Answer} → first ≡ bare → count ≤ i → answer ≡ done 0 0 →
-        HandsBack (booted given t (declareAll (take count list) 0 bare t)) (record { «record» = m; answer = answer })
-    planning-end given b h k =
+        {answer : Answer} → count ≤ i → answer ≡ done 0 0 →
+        Starts (declareAll (take count list) 0 first t) m answer
+    planning-end h k =
         let none : drop i (take count list) ≡ [] = drop-of-length-le (take count list) {i = i} (omega arith) in
-        rw (← b, s .rest, none, all-none i m t) (refl, k)
+        rw (s .rest, none, all-none i m t) (refl, k)
 
     module _
         (h : i < count) {q : Request} (asks : q ≡ requestOf (getD list i noRegion)) (marks bitmap : List ℕ) (none : marks ≡ []) (words : length bitmap ≡ room)
@@ -207,9 +207,9 @@ module _
         did is = declare-plan m asked t (s .shape) ∙ ap (concluded m t) (planned-is is)
 
         pub planning-stop :
-            {n : ℕ} {given bare : Record} {answer : Answer} → first ≡ bare → p ≡ Not n → answer ≡ refusedAt n i →
-            HandsBack (booted given t (declareAll (take count list) 0 bare t)) (record { «record» = given; answer = answer })
-        planning-stop b is k = rw (← b, next, stops after i m t (declare m asked t) (did is) (grown m asked t (s .shape) (s .records))) (refl, k)
+            {n : ℕ} (x : Record) {answer : Answer} → p ≡ Not n → answer ≡ refusedAt n i →
+            Starts (declareAll (take count list) 0 first t) x answer
+        planning-stop x is k = rw (next, stops after i m t (declare m asked t) (did is) (grown m asked t (s .shape) (s .records))) k
 
         pub planning-few : {a : Area} → p ≡ Made a → m .memory .declared < mostAreas
         planning-few is = plan-few m asked t (planned-is is)
@@ -239,42 +239,65 @@ fill-all l n v e =
     let long = length-fill v l 0 n in
     getD-fill-in v l 0 n i (omega arith) (omega arith) (omega arith) ∙ sym (getD-replicate (length l) i v 0 (omega arith)))
 
--- what is handed back on tables that are all zero says what a boot does to others
-module _ (m : Record) (t u : Tables) (x : Laid) where
-  leaves-refused : (read : Read Record) → HandsBack (booted m u read) x → 0 < x .answer .refusal → outcome (x .«record») (x .answer) t ≡ booted m t read
+-- what a boot comes to says what it does to the tables
+module _ (m : Record) (t : Tables) (new : Record) (a : Answer) where
+  leaves-refused : (read : Read Record) → Starts read new a → 0 < a .refusal → outcome m a t ≡ booted m t read
   leaves-refused (gives new at) k h = absurd (let z = ap (λ (a : Answer). a .refusal) (k .1) in omega arith)
-  leaves-refused (refuses number at) k h = rw (k .0, k .1)
+  leaves-refused (refuses number at) k h = rw k
 
   leaves-record :
-      (read : Read Record) → Fine (zeroTables t) read → HandsBack (booted m u read) x → x .answer .refusal ≡ 0 →
-      outcome (x .«record») (x .answer) (zeroTables t) ≡ booted m t read
+      (read : Read Record) → Fine (zeroTables t) read → Starts read new a → a .refusal ≡ 0 → outcome new a (zeroTables t) ≡ booted m t read
   leaves-record (gives new at) n k h = rw (k .0, k .1)
-  leaves-record (refuses number at) n k h = absurd (let z = ap (λ (a : Answer). a .refusal) (k .1) in omega arith)
+  leaves-record (refuses number at) n k h = absurd (let z = ap (λ (a : Answer). a .refusal) k in omega arith)
 
 module _ (m : Record) (base frames order : ℕ) (text : List ℕ) (t : Tables) where
   abbrev bootable : Bool
   bootable = memoryRight base frames order && lengthsRight frames t
 
+  -- what a boot does that asks for the numbers of all areas
+  abbrev does : Outcome
+  does = withAllAreas (λ m t. boot m base frames order text t) m t
+
   wrong : bootable ≡ false → boot m base frames order text t ≡ outcome m (refusedAt 1 0) t
   unfolding boot bootRecord
   wrong e = rw e
 
-  boots : (u : Tables) → boot m base frames order text u ≡ booted m u (bootRecord base frames order text u)
+  boots : boot m base frames order text t ≡ booted m t (bootRecord base frames order text t)
   unfolding boot
-  boots u = refl
+  boots = refl
+
+  lacks : hasAllAreas m ≡ false → does ≡ outcome m (refusedAt 1 0) t
+  unfolding withAllAreas
+  lacks e = rw e
+
+  asks : hasAllAreas m ≡ true → does ≡ booted m t (bootRecord base frames order text t)
+  unfolding withAllAreas
+  asks e = rw e boots
 
   -- from what the call's test of its numbers and lengths gave
-  module _ {right : Bool} (is : right ≡ (memoryRight base frames order && (eqb (length (t .marks)) frames && eqb (length (t .words)) frames))) where
-    tested : right ≡ bootable
+  module _ {right : Bool} (is : right ≡ (hasAllAreas m && (memoryRight base frames order && (eqb (length (t .marks)) frames && eqb (length (t .words)) frames)))) where
+    tested : right ≡ (hasAllAreas m && bootable)
     unfolding lengthsRight
     tested = is
 
-    pub boot-wrong : not right ≡ true → boot m base frames order text t ≡ outcome m (refusedAt 1 0) t
-    boot-wrong h = wrong (sym tested ∙ not-true right h)
+    pub boot-wrong : not right ≡ true → does ≡ outcome m (refusedAt 1 0) t
+    boot-wrong h =
+        by-cases (hasAllAreas m)
+        (λ all. asks all ∙ sym boots ∙ wrong (sym (tested ∙ ap (λ (b : Bool). b && bootable) all) ∙ not-true right h))
+        lacks
 
     module _ (yes : not right ≡ false) where
+      both : (hasAllAreas m && bootable) ≡ true
+      both = sym tested ∙ not-false right yes
+
       bootable-is : bootable ≡ true
-      bootable-is = sym tested ∙ not-false right yes
+      bootable-is = and-right (hasAllAreas m) bootable both
+
+      does-boot : does ≡ booted m t (bootRecord base frames order text t)
+      does-boot = asks (and-left (hasAllAreas m) bootable both)
+
+      pub all-areas : length (m .areas) ≡ mostAreaNumbers
+      all-areas = eqb-true (length (m .areas)) mostAreaNumbers (and-left (hasAllAreas m) bootable both)
 
       pub boot-memory : memoryRight base frames order ≡ true
       boot-memory = and-left (memoryRight base frames order) (lengthsRight frames t) bootable-is
@@ -283,7 +306,7 @@ module _ (m : Record) (base frames order : ℕ) (text : List ℕ) (t : Tables) w
       lengths = lengths-facts (bareRecord base frames order) t (and-right (memoryRight base frames order) (lengthsRight frames t) bootable-is)
 
       -- and from what was planned
-      module _ {x : Laid} (k : HandsBack (boot m base frames order text (clearTables frames (length (t .bitmap)))) x) where
+      module _ (new : Record) (a : Answer) (k : Starts (bootRecord base frames order text (clearTables frames (length (t .bitmap)))) new a) where
         abbrev u : Tables
         u = clearTables frames (length (t .bitmap))
 
@@ -297,18 +320,18 @@ module _ (m : Record) (base frames order : ℕ) (text : List ℕ) (t : Tables) w
             })
             base frames order text
 
-        comes : HandsBack (booted m u (bootRecord base frames order text t)) x
-        comes = subst (λ (read : Read Record). HandsBack (booted m u read) x) same (subst (λ (o : Outcome). HandsBack o x) (boots u) k)
+        comes : Starts (bootRecord base frames order text t) new a
+        comes = subst (λ (read : Read Record). Starts read new a) same k
 
-        pub boot-refused : 0 < x .answer .refusal → outcome (x .«record») (x .answer) t ≡ boot m base frames order text t
-        boot-refused h = leaves-refused m t u x (bootRecord base frames order text t) comes h ∙ sym (boots t)
+        pub boot-refused : 0 < a .refusal → outcome m a t ≡ does
+        boot-refused h = leaves-refused m t new a (bootRecord base frames order text t) comes h ∙ sym does-boot
 
         pub boot-done :
             {m₁ w₁ b₁ : List ℕ} →
-            x .answer .refusal ≡ 0 →
+            a .refusal ≡ 0 →
             m₁ ≡ fill (t .marks) 0 frames 0 →
             w₁ ≡ fill (t .words) 0 frames 0 →
-            b₁ ≡ fill (t .bitmap) 0 (length (t .bitmap)) 0 → outcome (x .«record») (x .answer) (tables m₁ w₁ b₁) ≡ boot m base frames order text t
+            b₁ ≡ fill (t .bitmap) 0 (length (t .bitmap)) 0 → outcome new a (tables m₁ w₁ b₁) ≡ does
         boot-done h em ew eb =
             rw (em ∙ fill-all (t .marks) frames 0 (lengths .0), ew ∙ fill-all (t .words) frames 0 (lengths .1), eb ∙ fill-all (t .bitmap) (length (t .bitmap)) 0 refl)
-            (leaves-record m t u x (bootRecord base frames order text t) (boot-fine base frames order text t) comes h ∙ sym (boots t))
+            (leaves-record m t new a (bootRecord base frames order text t) (boot-fine base frames order text t) comes h ∙ sym does-boot)

@@ -5,7 +5,7 @@ ghost use Prim.Native.Nat.{_≤_};
 ghost use lib.ListN.{length};
 ghost use Rattle.frames.specs.Areas.{wordCount, firstWord};
 ghost use Rattle.frames.specs.Tables.{fill};
-ghost use Rattle.rules.specs.Does.{Returns};
+ghost use Rattle.rules.specs.Does.{Returns, withAllAreas};
 ghost use Rattle.rules.specs.Declare.{declare};
 ghost use Rattle.rules.specs.Boot.{boot};
 
@@ -27,16 +27,29 @@ use frames::first_word;
 use place::Plan;
 use plan::plan_area;
 use plan::with_area;
+use rules::Memory;
 use rules::Record;
 use rules::Request;
 use shape::shape_right;
 use start::is_bootable;
 use start::plan_text;
 
-// What a declaration or a boot hands back.
+// What a declaration or a boot hands back. The areas' numbers of the record stand where they were lent.
 pub struct Laid {
-    pub record: Record,
+    pub memory: Memory,
     pub answer: Answer,
+}
+
+// Numbers become those of a list that is as long.
+fn copy(to: &mut [u64], from: &[u64])
+    requires { ⌜ length (now to) ≡ length (now from) ⌝ }
+    ensures { λ _. ⌜ now (to .exit) ≡ now (from .entry) ⌝ }
+{
+    let mut i = 0;
+    while i < from.len() {
+        to[i] = from[i];
+        i += 1;
+    }
 }
 
 // The bitmap words of one more area become 0.
@@ -48,32 +61,40 @@ fn clear_words(areas: &[u64], declared: u64, bitmap: &mut [u64], area: Area)
     fill_numbers(bitmap, from as usize, area.words(), 0);
 }
 
-// A new area, where the request says or at the highest place that it can have. Its bitmap words become 0.
+// A new area, where the request says or at the highest place that it can have. Its bitmap words become 0. The numbers of all areas are to be
+// lent, since those of the new one are written among them.
 pub fn declare(
-    record: Record,
+    memory: Memory,
+    areas: &mut [u64],
     marks: &[u32],
     words: &[u64],
     bitmap: &mut [u64],
     request: Request,
 ) -> Laid
-    ensures { λ r. ⌜ Returns (λ m. declare m request) «record» (r .record) (r .answer) marks words bitmap ⌝ }
+    ensures { λ r. ⌜ Returns (withAllAreas (λ m. declare m request)) memory areas (r .memory) (r .answer) marks words bitmap ⌝ }
 {
-    if !shape_right(record.memory, &record.areas, marks, words, bitmap) {
+    if areas.len() != Record::AREA_NUMBERS {
         return Laid {
-            record,
+            memory,
             answer: Answer::refused(refusal::WRONG_SHAPE),
         };
     }
-    let plan = plan_area(record.memory, &record.areas, marks, bitmap, request);
+    if !shape_right(memory, areas, marks, words, bitmap) {
+        return Laid {
+            memory,
+            answer: Answer::refused(refusal::WRONG_SHAPE),
+        };
+    }
+    let plan = plan_area(memory, areas, marks, bitmap, request);
     match plan {
         Plan::Not(number) => Laid {
-            record,
+            memory,
             answer: Answer::refused(number),
         },
         Plan::Made(area) => {
-            clear_words(&record.areas, record.memory.declared, bitmap, area);
+            clear_words(areas, memory.declared, bitmap, area);
             Laid {
-                record: with_area(record, area),
+                memory: with_area(memory, areas, area),
                 answer: Answer::done(area.base.0, area.count),
             }
         }
@@ -82,7 +103,8 @@ pub fn declare(
 
 // A new record, whatever was given. The regions are declared as if every frame were free: of the marks none is lent to the plan.
 pub fn boot(
-    record: Record,
+    memory: Memory,
+    areas: &mut [u64],
     marks: &mut [u32],
     words: &mut [u64],
     bitmap: &mut [u64],
@@ -91,29 +113,31 @@ pub fn boot(
     block_order: u64,
     text: &[u8],
 ) -> Laid
-    ensures { λ r. ⌜ Returns (λ m t. boot m (base .0) frames «block_order» (now (text .entry)) t) «record» (r .record) (r .answer) marks words bitmap ⌝ }
+    ensures { λ r. ⌜ Returns (withAllAreas (λ m t. boot m (base .0) frames «block_order» (now (text .entry)) t)) memory areas (r .memory) (r .answer) marks words bitmap ⌝ }
 {
-    if !is_bootable(marks.len(), words.len(), base, frames, block_order) {
-        return Laid {
-            record,
-            answer: Answer::refused_at(refusal::WRONG_SHAPE, 0),
-        };
-    }
-    let started = plan_text(
-        record,
-        &marks[0..0],
-        bitmap,
+    let bare = Memory {
         base,
         frames,
         block_order,
-        text,
-    );
-    if started.answer.refusal != 0 {
-        return started;
+        declared: 0,
+    };
+    if !is_bootable(bare, areas.len(), marks.len(), words.len()) {
+        return Laid {
+            memory,
+            answer: Answer::refused_at(refusal::WRONG_SHAPE, 0),
+        };
+    }
+    // The new record's areas are planned in numbers of their own: a refusal changes none that were lent.
+    let mut planned = [0; Record::AREA_NUMBERS];
+    let laid = plan_text(bare, &mut planned, &marks[0..0], bitmap, text);
+    let answer = laid.answer;
+    if answer.refusal != 0 {
+        return Laid { memory, answer };
     }
     let room = bitmap.len() as u64;
     fill_marks(marks, Place(0), frames, 0);
     fill_words(words, Place(0), frames, 0);
     fill_numbers(bitmap, 0, room, 0);
-    started
+    copy(areas, &planned);
+    laid
 }

@@ -7,7 +7,7 @@ ghost use lib.ListN.{length};
 ghost use Rattle.frames.specs.Areas.{wordCount, firstWord};
 ghost use Rattle.rules.specs.Limits.{mostAreas};
 ghost use Rattle.rules.specs.Shape.{memoryRight};
-ghost use Rattle.rules.specs.Does.{given};
+ghost use Rattle.rules.specs.Does.{recordWith, given};
 ghost use Rattle.rules.specs.Declare.{badRequest, withArea};
 ghost use Rattle.setup.specs.steps.Plan.{planTables, planAfter, plan};
 use crate::amounts::is_above_limit;
@@ -101,20 +101,17 @@ pub(crate) fn plan_area(
     plan_rounded(memory, areas, marks, bitmap, request)
 }
 
-// A record with one more area.
-pub(crate) fn with_area(record: Record, area: Area) -> Record
-    requires { ⌜ «record» .memory .declared < mostAreas ⌝ }
-    ensures { λ r. ⌜ r ≡ withArea «record» area ⌝ }
+// A record has one more area: the numbers of its areas where they are lent, and its memory as it is handed back.
+pub(crate) fn with_area(memory: Memory, areas: &mut [u64], area: Area) -> Memory
+    requires { ⌜ memory .declared < mostAreas ⌝ }
+    ensures { λ r. ⌜ recordWith r (now (areas .exit)) ≡ withArea (given memory areas) area ⌝ }
 {
-    let base = record.memory.base;
-    let declared = record.memory.declared;
-    let mut areas = record.areas;
-    set_area(&mut areas, declared as usize, area);
-    let memory = Memory {
+    let base = memory.base;
+    set_area(areas, memory.declared as usize, area);
+    Memory {
         base,
-        frames: record.memory.frames,
-        block_order: record.memory.block_order,
-        declared: declared + 1,
-    };
-    Record { memory, areas }
+        frames: memory.frames,
+        block_order: memory.block_order,
+        declared: memory.declared + 1,
+    }
 }

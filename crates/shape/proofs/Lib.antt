@@ -1,1 +1,2 @@
+pub mod Disjoint
 pub mod Returns

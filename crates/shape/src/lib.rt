@@ -1,12 +1,15 @@
 // The shape of a record and of the tables lent with it, for any field values and any lengths. Every call but boot checks it first, so the
 // record's areas are lent, and none is copied.
+ghost use Prim.Native.Nat.{_≤_, min, max};
 ghost use mathlib.Core.Path.{_≡_};
 ghost use mathlib.Core.Bool.{true};
 ghost use Rattle.search.specs.Search.{every};
-ghost use Rattle.frames.specs.Areas.{areaIn, areDisjoint};
+ghost use Rattle.frames.specs.Areas.{areaIn, endOf, areDisjoint};
 ghost use Rattle.frames.specs.Lent.{entering};
+ghost use Rattle.rules.specs.Limits.{mostEnd};
 ghost use Rattle.rules.specs.Shape.{memoryRight, areaRight, areaFits, shapeRight};
 ghost use Rattle.rules.specs.Does.{given};
+ghost use Rattle.shape.specs.steps.Spans.{LieBetween};
 use frames::Area;
 use frames::Frame;
 use frames::area_at;
@@ -64,10 +67,10 @@ fn area_right(memory: Memory, a: Area) -> bool
     if order < a.order_per_bit {
         return false;
     }
-    if a.base.0 % block != 0 {
+    if a.base.0 & (block - 1) != 0 {
         return false;
     }
-    if a.count % block != 0 {
+    if a.count & (block - 1) != 0 {
         return false;
     }
     if a.base.0 < memory.base.0 {
@@ -94,20 +97,61 @@ fn apart_from_lower(areas: &[u64], i: usize) -> bool
     true
 }
 
-// Every declared area is right, and they are apart.
+// The same, where the areas before it lie between two frames: one that lies above them all, or below, is told at one look.
+fn apart_from_span(areas: &[u64], i: usize, low: Frame, high: Frame) -> bool
+    requires { ⌜ LieBetween (now areas) i (low .0) (high .0) ⌝ }
+    requires { ⌜ endOf (areaIn (now areas) i) ≤ mostEnd ⌝ }
+    ensures { λ r. ⌜ r ≡ every (λ k. areDisjoint (areaIn (now (areas .entry)) k) (areaIn (now (areas .entry)) i)) 0 i ⌝ }
+{
+    let a = area_at(areas, i);
+    if high.0 <= a.base.0 {
+        return true;
+    }
+    if a.base.0 + a.count <= low.0 {
+        return true;
+    }
+    apart_from_lower(areas, i)
+}
+
+// The lower of two frames.
+fn lower(a: Frame, b: Frame) -> Frame
+    ensures { λ r. ⌜ r .0 ≡ min (a .0) (b .0) ⌝ }
+{
+    if b.0 < a.0 {
+        return b;
+    }
+    a
+}
+
+// The higher of two frames.
+fn higher(a: Frame, b: Frame) -> Frame
+    ensures { λ r. ⌜ r .0 ≡ max (a .0) (b .0) ⌝ }
+{
+    if a.0 < b.0 {
+        return b;
+    }
+    a
+}
+
+// Every declared area is right, and they are apart. Those that a declaration has placed mostly lie above or below all before them.
 fn areas_fit(memory: Memory, areas: &[u64]) -> bool
     requires { ⌜ memoryRight (memory .base .0) (memory .frames) (memory .«block_order») ≡ true ⌝ }
     ensures { λ r. ⌜ r ≡ every (areaFits (given memory areas)) 0 (memory .declared) ⌝ }
 {
     let declared = memory.declared as usize;
+    let mut low = Frame(memory.base.0 + memory.frames);
+    let mut high = memory.base;
     let mut i = 0;
     while i < declared {
-        if !area_right(memory, area_at(areas, i)) {
+        let a = area_at(areas, i);
+        if !area_right(memory, a) {
             return false;
         }
-        if !apart_from_lower(areas, i) {
+        if !apart_from_span(areas, i, low, high) {
             return false;
         }
+        low = lower(low, a.base);
+        high = higher(high, Frame(a.base.0 + a.count));
         i += 1;
     }
     true

@@ -1,31 +1,36 @@
 -- The laws of the record's layout. Assumes nothing.
 --     sets-over       numbers stored one after the other from the first on
---     sets-paste      numbers stored one after the other are a copy of all of them
 --     length-areas    a record that is read has all its areas' numbers
---     loaded          the areas' numbers, copied over as many zeros
-use Prim.Native.Nat.{ℕ, _+_, _≤_}
+--     areas-kept      a memory written over numbers whose areas' are a record's already
+use Prim.Native.Nat.{ℕ, _≤_}
 use native.Mathlib.Nat.{zero-add}
 use native.Mathlib.Omega.{arith}
-use mathlib.Core.Path.{_≡_, refl, ap, _∙_}
-use mathlib.Core.List.{List, _++_, append-nil}
-use lib.ListN.{length, drop, replicate, length-drop, length-replicate}
-use lib.Seq.{sets, sets-eq, paste, take-length, length-take-le}
+use mathlib.Core.Path.{_≡_, ap, _∙_}
+use mathlib.Core.List.{List, _++_}
+use lib.ListN.{length, take, drop, length-drop}
+use lib.Seq.{sets, sets-eq, drop-at, drop-drop, length-take-le}
+use Rattle.rules.specs.declared.Memory.{Memory}
 use Rattle.rules.specs.Limits.{mostAreaNumbers}
-use Rattle.szk.specs.Layout.{areasStart, recordLength, recordFrom, over}
+use Rattle.rules.specs.Does.{recordWith}
+use Rattle.szk.specs.Layout.{areasStart, recordLength, recordFrom, memoryNumbers, numbersOf, over}
 
 pub sets-over : (new numbers : List ℕ) → length new ≤ length numbers → sets numbers 0 new ≡ over new numbers
 unfolding over
 sets-over new numbers h = sets-eq new numbers 0 (omega arith) ∙ ap (λ (n : ℕ). new ++ drop n numbers) (zero-add (length new))
 
-pub sets-paste : (to : List ℕ) (at : ℕ) (from : List ℕ) → at + length from ≤ length to → paste to at from (length from) ≡ sets to at from
-sets-paste to at from h = rw (sets-eq from to at h, take-length from) refl
-
 pub length-areas : (numbers : List ℕ) → recordLength ≤ length numbers → length (recordFrom numbers .areas) ≡ mostAreaNumbers
 length-areas numbers h = length-take-le mostAreaNumbers (drop areasStart numbers) (omega (arith, length-drop areasStart numbers))
 
-pub loaded : (numbers : List ℕ) → recordLength ≤ length numbers → sets (replicate mostAreaNumbers 0) 0 (recordFrom numbers .areas) ≡ recordFrom numbers .areas
+pub areas-kept :
+    (memory : Memory) (areas numbers : List ℕ) → recordLength ≤ length numbers → length areas ≡ mostAreaNumbers →
+    over (memoryNumbers memory) (take areasStart numbers ++ (areas ++ drop mostAreaNumbers (drop areasStart numbers))) ≡
+    over (numbersOf (recordWith memory areas)) numbers
 unfolding over
-loaded numbers h =
-    let new : List ℕ = recordFrom numbers .areas in
-    sets-over new (replicate mostAreaNumbers 0) (omega (arith, length-areas numbers h, length-replicate {A = ℕ} mostAreaNumbers 0)) ∙
-    rw (length-areas numbers h) (append-nil new)
+areas-kept memory areas numbers h e =
+    ap (λ (l : List ℕ). memoryNumbers memory ++ l)
+    (drop-at (take areasStart numbers) (areas ++ drop mostAreaNumbers (drop areasStart numbers)) areasStart (length-take-le areasStart numbers (omega arith))) ∙
+    ap (λ (l : List ℕ). memoryNumbers memory ++ (areas ++ l)) (drop-drop mostAreaNumbers areasStart numbers) ∙
+    ap (λ (n : ℕ). memoryNumbers memory ++ (areas ++ drop n numbers)) whole
+  where
+    whole : recordLength ≡ length (numbersOf (recordWith memory areas))
+    whole = omega arith

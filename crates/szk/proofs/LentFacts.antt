@@ -5,20 +5,25 @@
 use Prim.Native.Nat.{ℕ, _≤_, _<_}
 use mathlib.Core.Path.{_≡_, refl, sym, ap, _∙_}
 use mathlib.Core.Bool.{Bool, true, false}
-use mathlib.Core.List.{List}
-use lib.ListN.{length}
+use mathlib.Core.List.{List, _++_}
+use lib.ListN.{length, take, drop}
 use borrow.Author.Tests.{lt-ltb, le-ltb, ltb-false}
 use Rattle.search.proofs.Bools.{by-cases, clash, or-left, or-right}
 use Rattle.answer.specs.Answers.{refused}
 use Rattle.frames.specs.Tables.{Tables}
 use Rattle.rules.specs.declared.Call.{Call}
+use Rattle.rules.specs.declared.Memory.{Memory}
 use Rattle.rules.specs.declared.Record.{Record}
+use Rattle.rules.specs.Limits.{mostAreaNumbers}
 use Rattle.rules.specs.Outcomes.{Outcome, outcome}
 use Rattle.rules.specs.Calls.{perform}
+use Rattle.rules.specs.Does.{recordWith, withAllAreas}
 use Rattle.machine.specs.declared.Returned.{Returned}
-use Rattle.szk.specs.Layout.{recordLength, answerLength, recordFrom, numbersOf, answerNumbers, over}
+use Rattle.setup.proofs.AllAreas.{asked}
+use Rattle.szk.specs.Layout.{areasStart, recordLength, answerLength, recordFrom, memoryNumbers, answerNumbers, over}
 use Rattle.szk.specs.Exported.{handed, isShort, toldShort, givenBack, exported}
 use Rattle.szk.specs.steps.Judged.{Judged}
+use Rattle.szk.proofs.LayoutFacts.{length-areas, areas-kept}
 
 module _ (numbers answer : List ℕ) where
   pub no-room : length answer < answerLength → Judged numbers answer true (toldShort answer)
@@ -67,21 +72,27 @@ module _ {numbers answer after : List ℕ} {short : Bool} (j : Judged numbers an
       by-cases (isShort numbers recordLength) (λ n. rw (j .left, a, n) refl)
       (λ n. clash short e (rw (a, n) at (j .verdict))))
 
-  -- a call that is made: on the record read, and what it returned is given back
+  -- a call that is made: on the record that the numbers hold, whose areas' stay where they are; and what it returned is given back
   pub performed :
-      (call : Call) (text : List ℕ) (t : Tables) {t′ : Tables} {numbers′ answer′ : List ℕ} {m : Record} {r : Returned} →
+      (call : Call) (text : List ℕ) (t : Tables) {t′ : Tables} {areas′ numbers′ answer′ : List ℕ} {memory : Memory} {r : Returned} →
       short ≡ false →
-      m ≡ recordFrom numbers →
-      outcome (r .machine .record) (r .answer) t′ ≡ perform call text m t →
-      numbers′ ≡ over (numbersOf (r .machine .record)) numbers →
+      memory ≡ recordFrom numbers .memory →
+      outcome (recordWith (r .machine .memory) areas′) (r .answer) t′ ≡ withAllAreas (perform call text) (recordWith memory (recordFrom numbers .areas)) t →
+      length areas′ ≡ mostAreaNumbers →
+      numbers′ ≡ over (memoryNumbers (r .machine .memory)) (take areasStart numbers ++ (areas′ ++ drop mostAreaNumbers (drop areasStart numbers))) →
       answer′ ≡ over (answerNumbers (r .answer)) after →
       handed numbers′ t′ answer′ ≡ exported call text (handed numbers t answer)
   unfolding exported
-  performed call text t {t′} {numbers′} {answer′} {m} {r} e loaded called given-numbers given-answer =
+  performed call text t {t′} {areas′} {numbers′} {answer′} {memory} {r} e loaded called long given-numbers given-answer =
       let here = room e in
+      let m : Record = recordFrom numbers in
       let a = le-ltb (length answer) answerLength (here .answer-long) in
       let n = le-ltb (length numbers) recordLength (here .record-long) in
-      let back : handed numbers′ t′ answer′ ≡ givenBack (outcome (r .machine .record) (r .answer) t′) (handed numbers t answer) =
-      rw (given-numbers, given-answer, here .kept) refl in
-      back ∙
-      ap (λ (o : Outcome). givenBack o (handed numbers t answer)) (called ∙ ap (λ (x : Record). perform call text x t) loaded) ∙ rw (a, n) refl
+      let kept = given-numbers ∙ areas-kept (r .machine .memory) areas′ numbers (here .record-long) long in
+      let back : handed numbers′ t′ answer′ ≡ givenBack (outcome (recordWith (r .machine .memory) areas′) (r .answer) t′) (handed numbers t answer) =
+      rw (kept, given-answer, here .kept) refl in
+      let made =
+      called ∙
+      ap (λ (x : Memory). withAllAreas (perform call text) (recordWith x (m .areas)) t) loaded ∙
+      sym (asked (perform call text) m t (length-areas numbers (here .record-long))) in
+      back ∙ ap (λ (o : Outcome). givenBack o (handed numbers t answer)) made ∙ rw (a, n) refl

@@ -5,6 +5,7 @@ use mathlib.Core.List.{List, [], _∷_, _++_}
 use lib.ListN.{length, getD, take, drop}
 use Rattle.answer.specs.declared.Answer.{Answer}
 use Rattle.frames.specs.Units.{frame}
+use Rattle.rules.specs.declared.Memory.{Memory}
 use Rattle.rules.specs.declared.Record.{Record}
 use Rattle.rules.specs.Limits.{mostAreaNumbers}
 
@@ -31,9 +32,12 @@ recordFrom numbers =
       areas = take mostAreaNumbers (drop areasStart numbers);
     }
 
--- from a record to its numbers
+-- from a record to its numbers: those of its memory, and then its areas'
+abbrev pub memoryNumbers : Memory → List ℕ
+memoryNumbers m = m .base .0 ∷ m .frames ∷ m .«block_order» ∷ m .declared ∷ []
+
 abbrev pub numbersOf : Record → List ℕ
-numbersOf m = m .memory .base .0 ∷ m .memory .frames ∷ m .memory .«block_order» ∷ m .memory .declared ∷ m .areas
+numbersOf m = memoryNumbers (m .memory) ++ m .areas
 
 abbrev pub answerNumbers : Answer → List ℕ
 answerNumbers a = a .refusal ∷ a .first ∷ a .second ∷ []

@@ -3,7 +3,7 @@
 ghost use mathlib.Core.Path.{_≡_};
 ghost use Prim.Native.Nat.{_≤_};
 ghost use lib.ListN.{length};
-ghost use Rattle.szk.specs.Layout.{recordLength, answerLength, numbersOf, answerNumbers, over};
+ghost use Rattle.szk.specs.Layout.{recordLength, answerLength, memoryNumbers, answerNumbers, over};
 ghost use Rattle.szk.specs.Exported.{Exports};
 ghost use Rattle.szk.specs.steps.Judged.{Judged};
 use crate::layout;
@@ -29,19 +29,19 @@ fn refuse_short(numbers: &[u64], answer: &mut [u64]) -> bool
     false
 }
 
-// The record and the answer that a call returned are written over the numbers lent.
+// The memory and the answer that a call returned are written over the numbers lent.
 fn give_back(numbers: &mut [u64], answer: &mut [u64], r: Returned)
     requires { ⌜ (recordLength ≤ length (now numbers)) × (answerLength ≤ length (now answer)) ⌝ }
-    ensures { λ _. ⌜ now (numbers .exit) ≡ over (numbersOf (r .machine .record)) (now (numbers .entry)) ⌝ }
+    ensures { λ _. ⌜ now (numbers .exit) ≡ over (memoryNumbers (r .machine .memory)) (now (numbers .entry)) ⌝ }
     ensures { λ _. ⌜ now (answer .exit) ≡ over (answerNumbers (r .answer)) (now (answer .entry)) ⌝ }
 {
-    let record = r.machine.record;
+    let memory = r.machine.memory;
     let a = r.answer;
-    layout::store(numbers, record);
+    layout::store(numbers, memory);
     layout::store_answer(answer, a);
 }
 
-// A call is performed on what its caller lends. The text is a boot's, and no other call reads it.
+// A call is performed on what its caller lends, the areas' numbers where they stand. The text is a boot's, and no other call reads it.
 pub fn call(
     numbers: &mut [u64],
     marks: &mut [u32],
@@ -56,8 +56,15 @@ pub fn call(
     if refuse_short(numbers, answer) {
         return;
     }
-    let record = layout::load(numbers);
-    let m = Machine { record };
-    let r = m.perform(marks, words, bitmap, call, text);
+    let memory = layout::load(numbers);
+    let m = Machine { memory };
+    let r = m.perform(
+        &mut numbers[layout::AREAS_START..layout::RECORD],
+        marks,
+        words,
+        bitmap,
+        call,
+        text,
+    );
     give_back(numbers, answer, r);
 }

@@ -1,9 +1,9 @@
-// The machine record and the answer as the numbers that a caller lends: read from there, and written back.
+// The machine record and the answer as the numbers that a caller lends: the record's own four are read from there and written back, and those of
+// its areas stay where they are.
 ghost use mathlib.Core.Path.{_≡_};
-ghost use Prim.Native.Nat.{_+_, _≤_};
+ghost use Prim.Native.Nat.{_≤_};
 ghost use lib.ListN.{length, set};
-ghost use lib.Seq.{sets};
-ghost use Rattle.szk.specs.Layout.{recordLength, answerLength, recordFrom, numbersOf, answerNumbers, over};
+ghost use Rattle.szk.specs.Layout.{recordLength, answerLength, recordFrom, memoryNumbers, answerNumbers, over};
 use answer::Answer;
 use frames::Frame;
 use rules::Memory;
@@ -16,46 +16,30 @@ pub const RECORD: usize = AREAS_START + Record::AREA_NUMBERS;
 pub const ANSWER: usize = 3;
 
 // Where the areas' numbers begin, after the record's own four.
-const AREAS_START: usize = 4;
+pub const AREAS_START: usize = 4;
 
-// Numbers are written over others, from `at` on.
-fn copy(to: &mut [u64], at: usize, from: &[u64])
-    requires { ⌜ at + length (now from) ≤ length (now to) ⌝ }
-    ensures { λ _. ⌜ now (to .exit) ≡ sets (now (to .entry)) at (now (from .entry)) ⌝ }
-{
-    let mut i = 0;
-    while i < from.len() {
-        to[at + i] = from[i];
-        i += 1;
-    }
-}
-
-// The record that the numbers hold.
-pub fn load(numbers: &[u64]) -> Record
+// The memory of the record that the numbers hold.
+pub fn load(numbers: &[u64]) -> Memory
     requires { ⌜ recordLength ≤ length (now numbers) ⌝ }
-    ensures { λ r. ⌜ r ≡ recordFrom (now (numbers .entry)) ⌝ }
+    ensures { λ r. ⌜ r ≡ recordFrom (now (numbers .entry)) .memory ⌝ }
 {
-    let memory = Memory {
+    Memory {
         base: Frame(numbers[0]),
         frames: numbers[1],
         block_order: numbers[2],
         declared: numbers[3],
-    };
-    let mut areas = [0; Record::AREA_NUMBERS];
-    copy(&mut areas, 0, &numbers[AREAS_START..RECORD]);
-    Record { memory, areas }
+    }
 }
 
-// A record is written over the first numbers.
-pub fn store(numbers: &mut [u64], m: Record)
+// A memory is written over the first numbers.
+pub fn store(numbers: &mut [u64], memory: Memory)
     requires { ⌜ recordLength ≤ length (now numbers) ⌝ }
-    ensures { λ _. ⌜ now (numbers .exit) ≡ over (numbersOf m) (now (numbers .entry)) ⌝ }
+    ensures { λ _. ⌜ now (numbers .exit) ≡ over (memoryNumbers memory) (now (numbers .entry)) ⌝ }
 {
-    numbers[0] = m.memory.base.0;
-    numbers[1] = m.memory.frames;
-    numbers[2] = m.memory.block_order;
-    numbers[3] = m.memory.declared;
-    copy(numbers, AREAS_START, &m.areas);
+    numbers[0] = memory.base.0;
+    numbers[1] = memory.frames;
+    numbers[2] = memory.block_order;
+    numbers[3] = memory.declared;
 }
 
 // An answer is written over the first numbers.

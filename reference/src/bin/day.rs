@@ -1,6 +1,8 @@
 //! Writes the records of a day to standard output: `day SEED CALLS` those of a
-//! crowded station, `day pins GRANTS` and the same with `dense`, `bits` or
-//! `aligned` those of grants that find no run.
+//! crowded station, `day areas SEED CALLS` those of one with sixty areas,
+//! `day pins GRANTS` and the same with `dense`, `bits` or `aligned` those of
+//! grants that find no run, `day between PUTS` those of puts past areas that stand
+//! between ordinary frames.
 
 use std::env;
 use std::io::{self, Write};
@@ -8,24 +10,27 @@ use std::process::ExitCode;
 
 use reference::{day, searches};
 
-fn records(words: &[String]) -> Option<Vec<u8>> {
-    let [which, number] = words else {
-        return None;
-    };
-    let number = number.parse().ok()?;
-    Some(match which.as_str() {
-        "pins" => searches::past_pins(33, number),
-        "dense" => searches::past_pins(2, number),
-        "bits" => searches::past_set_bits(2, 0, number),
-        "aligned" => searches::past_set_bits(4, 2, number),
-        seed => day::records(seed.parse().ok()?, number),
+fn records(words: &[&str]) -> Option<Vec<u8>> {
+    let (&last, before) = words.split_last()?;
+    let number = last.parse().ok()?;
+    Some(match before {
+        ["pins"] => searches::past_pins(33, number),
+        ["dense"] => searches::past_pins(2, number),
+        ["bits"] => searches::past_set_bits(2, 0, number),
+        ["aligned"] => searches::past_set_bits(4, 2, number),
+        ["between"] => searches::past_areas(number),
+        ["areas", seed] => day::records_of_many_areas(seed.parse().ok()?, number),
+        [seed] => day::records(seed.parse().ok()?, number),
+        _ => return None,
     })
 }
 
 fn main() -> ExitCode {
     let words: Vec<String> = env::args().skip(1).collect();
+    let words: Vec<&str> = words.iter().map(String::as_str).collect();
     let Some(records) = records(&words) else {
-        eprintln!("day: say a seed and a number of calls, or `pins`, `dense`, `bits` or `aligned` and a number of grants");
+        eprintln!("day: say a seed and a number of calls, with `areas` before them or not, or `pins`, `dense`, `bits` or");
+        eprintln!("     `aligned` and a number of grants, or `between` and one of puts");
         return ExitCode::FAILURE;
     };
     match io::stdout().write_all(&records) {

@@ -3,6 +3,7 @@
 
 use reference::machine::{Machine, Tables};
 use reference::regions;
+use reference::replay::BITMAP_WORDS;
 use std::io::{self, Read, Write};
 
 fn line_for(text: &[u8]) -> String {
@@ -13,7 +14,7 @@ fn line_for(text: &[u8]) -> String {
         }
         Err((number, place)) => format!("read {number} {place} 0"),
     };
-    let (mut marks, mut words, mut bitmap) = ([0; 32], [0; 32], [0; 40]);
+    let (mut marks, mut words, mut bitmap) = ([0; 32], [0; 32], [0; BITMAP_WORDS]);
     let mut tables = Tables { marks: &mut marks, words: &mut words, bitmap: &mut bitmap };
     let mut machine = Machine::fresh();
     let answer = machine.boot(&mut tables, 4, 32, 2, text);

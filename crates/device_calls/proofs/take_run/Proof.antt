@@ -54,7 +54,7 @@ move-out-requires : tie.Need-move-out-requires
 move-out-requires c κs =
     let k = has (c .before .before .before .before .before .before .before .before .before .before .before) in
     let n = ap (λ (q : Place). q .0) (placed (c .before .before .before)) in
-    (omega (arith, n, k .end-high), k .marks-length, k .words-length, λ q u v. k .held q (omega (arith, n)) (omega (arith, n)))
+    (k .declared-high, omega (arith, n, k .end-high), k .marks-length, k .words-length, λ q u v. k .held q (omega (arith, n)) (omega (arith, n)))
 
 mark-run-requires : tie.Need-mark-run-requires
 mark-run-requires c κs =

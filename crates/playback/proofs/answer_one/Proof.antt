@@ -4,6 +4,7 @@ use native.Mathlib.Omega.{arith}
 use lib.ListN.{length}
 use denote.Ref.{now}
 use Rattle.frames.specs.Tables.{Tables, tables}
+use Rattle.playback.specs.steps.Going.{progressWith}
 use Rattle.playback.proofs.Records.{step-left, one-answered}
 use Rattle.playback.proofs.answer_one.Statement.{statement}
 use Rattle.playback.proofs.answer_one.Tie as tie
@@ -18,13 +19,13 @@ answer-requires c κs = search needs
 put-line-requires : tie.Need-put-line-requires
 put-line-requires c κs = search needs
 
-add-t21 : tie.Need-add-t21
-add-t21 c = search needs
+add-t24 : tie.Need-add-t24
+add-t24 c = let given = c .before .before .before .before .before .before .before .before .before .before .before .before .before .before .before .before .before .before .before .before .before .before .before .before .before .before in omega (arith, given .pre .1)
 
-add-t22 : tie.Need-add-t22
-add-t22 c =
-    let given = c .before .before .before .before .before .before .before .before .before .before .before .before .before .before .before .before .before .before .before .before .before .before .before in
-    omega (arith, step-left (length (now (given .args .out))) (given .args .p) (given .pre .0))
+add-t25 : tie.Need-add-t25
+add-t25 c =
+    let given = c .before .before .before .before .before .before .before .before .before .before .before .before .before .before .before .before .before .before .before .before .before .before .before .before .before .before .before in
+    omega (arith, step-left (length (now (given .args .out))) (given .args .p .text) (given .args .p .step) (given .pre .0))
 
 same-length : tie.Need-same-length
 same-length c = search needs
@@ -38,13 +39,16 @@ same-length-3 c = search needs
 same-length-4 : tie.Need-same-length-4
 same-length-4 c = search needs
 
+same-length-5 : tie.Need-same-length-5
+same-length-5 c = search needs
+
 returns : tie.Need-returns
 returns c =
-    let given = c .before .before .before .before .before .before .before .before .before .before .before .before .before .before .before .before .before .before .before .before .before .before .before in
-    let made = c .before .before .before .before .before .before .before .before .before .before .before .before .before .before .answer in
+    let given = c .before .before .before .before .before .before .before .before .before .before .before .before .before .before .before .before .before .before .before .before .before .before .before .before .before .before .before in
+    let made = c .before .before .before .before .before .before .before .before .before .before .before .before .before .before .before .before .answer in
     let line = c .before .before .before .before .put-line in
-    one-answered (given .args .p) (now (given .args .out)) (lent-by given) (given .args .call) (given .args .size)
-    (made .result) (made .last .0) (made .last .1 .0) (made .last .1 .1 .0)
+    one-answered (progressWith (given .args .p) (now (given .args .areas))) (now (given .args .out)) (lent-by given) (given .args .call) (given .args .size)
+    (made .result) (made .last .0) (made .last .1 .0) (made .last .1 .1 .0) (made .last .1 .1 .1 .0)
     (line .last .0) (line .result)
     (given .pre .0) (made .ensures) (line .ensures)
 
@@ -54,10 +58,11 @@ answer-one-spec =
     (tie.spec
     answer-requires
     put-line-requires
-    add-t21
-    add-t22
+    add-t24
+    add-t25
     same-length
     same-length-2
     same-length-3
     same-length-4
+    same-length-5
     returns)

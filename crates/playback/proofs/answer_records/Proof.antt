@@ -10,35 +10,42 @@ use lib.ListN.{length}
 use borrow.Author.Tests.{not-true, not-false}
 use denote.Ref.{now}
 use Rattle.frames.specs.Tables.{tables}
+use Rattle.rules.specs.Limits.{mostAreaNumbers}
 use Rattle.records.proofs.Decoding.{Within, whole-within}
 use Rattle.playback.specs.Playback.{hasRoomFor, Playing, playing}
+use Rattle.playback.specs.steps.Going.{progressWith}
 use Rattle.playback.proofs.Records.{Same, Turn, begins, full, all, turn, unknown, cut, whole, one-at}
 use Rattle.playback.proofs.answer_records.Statement.{statement}
 use Rattle.playback.proofs.answer_records.Tie as tie
 
 abbrev Inv-loop : tie.InvT-loop
-Inv-loop bytes out₀ marks₀ words₀ bitmap₀ p₀ out marks words bitmap p =
-    Same bytes (playing p₀ out₀ (tables marks₀ words₀ bitmap₀)) (playing p out (tables marks words bitmap)) ×
+Inv-loop bytes out₀ marks₀ words₀ bitmap₀ areas₀ p₀ out marks words bitmap areas p =
+    Same bytes (playing (progressWith p₀ areas₀) out₀ (tables marks₀ words₀ bitmap₀)) (playing (progressWith p areas) out (tables marks words bitmap)) ×
     (length out ≡ length out₀) ×
     (length marks ≡ length marks₀) ×
     (length words ≡ length words₀) ×
-    (length bitmap ≡ length bitmap₀)
+    (length bitmap ≡ length bitmap₀) ×
+    (length areas ≡ mostAreaNumbers)
 
 abbrev μ-loop : tie.MeasureT-loop
-μ-loop bytes out₀ marks₀ words₀ bitmap₀ p₀ out marks words bitmap p = length bytes - p .at
+μ-loop bytes out₀ marks₀ words₀ bitmap₀ areas₀ p₀ out marks words bitmap areas p = length bytes - p .at
+
+-- what was given
+abbrev start-at : tie.Start Inv-loop μ-loop → Playing
+start-at c = playing (c .args .start) (now (c .args .out)) (tables (now (c .args .marks)) (now (c .args .words)) (now (c .args .bitmap)))
 
 -- at the loop's test: the bytes, what was given, and what there is now
 abbrev bytes-of : tie.At-loop Inv-loop μ-loop → List ℕ
-bytes-of c = now (c .before .before .before .before .before .before .args .bytes)
+bytes-of c = now (c .before .before .before .before .before .before .before .before .args .bytes)
 
 abbrev start-of : tie.At-loop Inv-loop μ-loop → Playing
-start-of c = playing (c .before .before .before .before .before .before .args .start) (now (c .before .before .before .before .before .before .args .out)) (tables (now (c .before .before .before .before .before .before .args .marks)) (now (c .before .before .before .before .before .before .args .words)) (now (c .before .before .before .before .before .before .args .bitmap)))
+start-of c = start-at (c .before .before .before .before .before .before .before .before)
 
 abbrev state-of : tie.At-loop Inv-loop μ-loop → Playing
-state-of c = playing (c .loop .p) (c .loop .out) (tables (c .loop .marks) (c .loop .words) (c .loop .bitmap))
+state-of c = playing (progressWith (c .loop .p) (c .loop .areas)) (c .loop .out) (tables (c .loop .marks) (c .loop .words) (c .loop .bitmap))
 
 loop-holds : tie.Need-loop-holds Inv-loop μ-loop
-loop-holds c = (begins (now (c .before .before .before .before .before .args .bytes)) (playing (c .before .before .before .before .before .args .start) (now (c .before .before .before .before .before .args .out)) (tables (now (c .before .before .before .before .before .args .marks)) (now (c .before .before .before .before .before .args .words)) (now (c .before .before .before .before .before .args .bitmap)))), refl, refl, refl, refl)
+loop-holds c = (begins (now (c .before .before .before .before .before .before .before .args .bytes)) (start-at (c .before .before .before .before .before .before .before)), refl, refl, refl, refl, search needs)
 
 has-room-requires : tie.Need-has-room-requires Inv-loop μ-loop
 has-room-requires c κs = search needs
@@ -62,7 +69,7 @@ returns : tie.Need-returns Inv-loop μ-loop
 returns c = rw (c .stops .ensures) (sym (full (bytes-of (c .before .before .before .before .before)) (start-of (c .before .before .before .before .before)) (state-of (c .before .before .before .before .before)) (c .before .before .before .before .before .loop .inv .0) (c .before .before .before .if1 .taken) (sym (c .before .before .has-room .ensures) ∙ not-true (c .before .before .has-room .result) (c .before .if2 .taken))))
 
 -- the output has room
-room-there : (c : tie.Else2 Inv-loop μ-loop) → hasRoomFor (length (c .before .before .before .before .loop .out)) (c .before .before .before .before .loop .p) ≡ true
+room-there : (c : tie.Else2 Inv-loop μ-loop) → hasRoomFor (length (c .before .before .before .before .loop .out)) (c .before .before .before .before .loop .p .text) (c .before .before .before .before .loop .p .step) ≡ true
 room-there c = sym (c .before .has-room .ensures) ∙ not-false (c .before .has-room .result) (c .if2 .left)
 
 -- so the record at the place decides
@@ -75,35 +82,38 @@ decode-requires c κs = search needs
 enum-known-found : tie.Need-enum-known-found Inv-loop μ-loop
 enum-known-found c = search needs
 
+slice-aggregate-answer-one : tie.Need-slice-aggregate-answer-one Inv-loop μ-loop
+slice-aggregate-answer-one c = sym (c .before .before .before .before .before .before .before .before .before .before .loop .inv .5)
+
 -- a record that was found lies within the bytes
 inside : (c : tie.After-found Inv-loop μ-loop) → Within (bytes-of (c .before .before .before .before .before .before .before)) (c .before .before .before .before .before .before .before .loop .p .at) (c .found .given .0 .1 .0)
 inside c = whole-within (bytes-of (c .before .before .before .before .before .before .before)) (c .before .before .before .before .before .before .before .loop .p .at) (sym (c .before .before .decode .ensures) ∙ c .found .given .1)
 
 answer-one-requires : tie.Need-answer-one-requires Inv-loop μ-loop
 answer-one-requires c κs =
-    let w = inside (c .before .before .before .before .before) in
-    let g = c .before .before .before .before .before .before .before .before .before .before .before .before .before .before .before .before .before .before .good in
-    (room-there (c .before .before .before .before .before .before .before .before), omega arith)
+    let w = inside (c .before .before .before .before .before .before) in
+    let g = c .before .before .before .before .before .before .before .before .before .before .before .before .before .before .before .before .before .before .before .before .before .good in
+    (room-there (c .before .before .before .before .before .before .before .before .before), omega arith, c .before .before .before .before .before .before .before .before .before .before .before .before .before .loop .inv .5)
 
 -- and the next place is after it
-moved-on : (c : tie.After-answer-one Inv-loop μ-loop) → c .answer-one .result .at ≡ c .before .before .before .before .before .before .before .before .before .before .before .before .before .loop .p .at + c .before .before .before .before .before .before .found .given .0 .1 .0
+moved-on : (c : tie.After-answer-one Inv-loop μ-loop) → c .answer-one .result .at ≡ c .before .before .before .before .before .before .before .before .before .before .before .before .before .before .loop .p .at + c .before .before .before .before .before .before .before .found .given .0 .1 .0
 moved-on c =
     ap (λ (s : Playing). s .progress .at) (c .answer-one .ensures)
-    ∙ one-at (state-of (c .before .before .before .before .before .before .before .before .before .before .before .before .before)) (c .before .before .before .before .before .before .found .given .0 .0) (c .before .before .before .before .before .before .found .given .0 .1 .0)
+    ∙ one-at (state-of (c .before .before .before .before .before .before .before .before .before .before .before .before .before .before)) (c .before .before .before .before .before .before .before .found .given .0 .0) (c .before .before .before .before .before .before .before .found .given .0 .1 .0)
 
 loop-less : tie.Need-loop-less Inv-loop μ-loop
 loop-less c =
-    let w = inside (c .before .before .before .before .before .before .before .before .before .before .before .before .before .before) in
-    let e = moved-on (c .before .before .before .before .before .before .before .before) in
-    let h = c .before .before .before .before .before .before .before .before .before .before .before .before .before .before .before .before .before .before .before .if1 .taken in
+    let w = inside (c .before .before .before .before .before .before .before .before .before .before .before .before .before .before .before .before) in
+    let e = moved-on (c .before .before .before .before .before .before .before .before .before) in
+    let h = c .before .before .before .before .before .before .before .before .before .before .before .before .before .before .before .before .before .before .before .before .before .if1 .taken in
     omega arith
 
 loop-again : tie.Need-loop-again Inv-loop μ-loop
 loop-again c =
-    let k = c .before .before .before .before .before .before .before .before .answer-one .kept in
-    let i = c .before .before .before .before .before .before .before .before .before .before .before .before .before .before .before .before .before .before .before .before .before .loop .inv in
-    let f = c .before .before .before .before .before .before .before .before .before .before .before .before .before .before .found .given in
-    (rw (c .before .before .before .before .before .before .before .before .answer-one .ensures) (whole (bytes-of (c .before .before .before .before .before .before .before .before .before .before .before .before .before .before .before .before .before .before .before .before .before)) (start-of (c .before .before .before .before .before .before .before .before .before .before .before .before .before .before .before .before .before .before .before .before .before)) (state-of (c .before .before .before .before .before .before .before .before .before .before .before .before .before .before .before .before .before .before .before .before .before)) (f .0 .0) (f .0 .1 .0) (turned (c .before .before .before .before .before .before .before .before .before .before .before .before .before .before .before .before .before)) (sym (c .before .before .before .before .before .before .before .before .before .before .before .before .before .before .before .before .decode .ensures) ∙ f .1)), omega arith, omega arith, omega arith, omega arith)
+    let k = c .before .before .before .before .before .before .before .before .before .answer-one .kept in
+    let i = c .before .before .before .before .before .before .before .before .before .before .before .before .before .before .before .before .before .before .before .before .before .before .before .loop .inv in
+    let f = c .before .before .before .before .before .before .before .before .before .before .before .before .before .before .before .before .found .given in
+    (rw (c .before .before .before .before .before .before .before .before .before .answer-one .ensures) (whole (bytes-of (c .before .before .before .before .before .before .before .before .before .before .before .before .before .before .before .before .before .before .before .before .before .before .before)) (start-of (c .before .before .before .before .before .before .before .before .before .before .before .before .before .before .before .before .before .before .before .before .before .before .before)) (state-of (c .before .before .before .before .before .before .before .before .before .before .before .before .before .before .before .before .before .before .before .before .before .before .before)) (f .0 .0) (f .0 .1 .0) (turned (c .before .before .before .before .before .before .before .before .before .before .before .before .before .before .before .before .before .before .before)) (sym (c .before .before .before .before .before .before .before .before .before .before .before .before .before .before .before .before .before .before .decode .ensures) ∙ f .1)), omega arith, omega arith, omega arith, omega arith, omega arith)
 
 enum-told : tie.Need-enum-told Inv-loop μ-loop
 enum-told c = search needs
@@ -181,6 +191,7 @@ answer-records-spec =
     returns
     decode-requires
     enum-known-found
+    slice-aggregate-answer-one
     answer-one-requires
     loop-less
     loop-again

@@ -8,15 +8,15 @@ use Rattle.playback.proofs.has_room.Tie as tie
 
 returns : tie.Need-returns
 unfolding hasRoomFor
-returns c = rw (lt-leb (c .before .args .p .text + room) (c .before .args .size) (omega arith))
+returns c = rw (lt-leb (c .before .args .text + room) (c .before .args .size) (omega arith))
 
 returns-2 : tie.Need-returns-2
 unfolding hasRoomFor
-returns-2 c = rw (lt-leb (c .before .before .before .args .p .text + room) (c .before .before .before .args .size) (omega arith))
+returns-2 c = rw (lt-leb (c .before .before .args .text + room) (c .before .before .args .size) (omega arith))
 
 returns-3 : tie.Need-returns-3
 unfolding hasRoomFor
-returns-3 c = rw (le-leb (c .before .before .before .before .args .p .text + room) (c .before .before .before .before .args .size) (omega arith))
+returns-3 c = rw (le-leb (c .before .before .args .text + room) (c .before .before .args .size) (omega arith))
 
 pub has-room-spec : {M : Type 1} → statement M
 has-room-spec = tie.close (tie.spec returns returns-2 returns-3)

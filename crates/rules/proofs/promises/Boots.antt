@@ -163,7 +163,7 @@ module _ (base frames blockOrder : ℕ) (text : List ℕ) (t : Tables) where
           reads = l .1;
           declared = omega (arith, g .declared);
           unused = λ i h. g .unused i (omega arith) ∙ bare-area i;
-          eight = g .records ∙ length-replicate {A = ℕ} mostAreaNumbers 0;
+          numbers = g .records ∙ length-replicate {A = ℕ} mostAreaNumbers 0;
           areas = l .2;
         },
       )

@@ -136,7 +136,7 @@ declare-numbers :
 declare-numbers m r t done =
     rung (wrong-shape m t)
     (λ shape.
-    rung (says-leb 8 (m .memory .declared))
+    rung (says-leb 64 (m .memory .declared))
     (λ room.
     rung (bad-amounts r)
     (λ good.

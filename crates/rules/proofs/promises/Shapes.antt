@@ -25,7 +25,7 @@ memory-says base frames blockOrder =
     (λ r. ((((r .base-least, r .frames-least), r .frames-most), r .end-most), r .order-most))
     (says-and
     (says-and
-    (says-and (says-and (says-leb 1 base) (λ _. says-leb 1 frames)) (λ _. says-leb frames 65536))
+    (says-and (says-and (says-leb 1 base) (λ _. says-leb 1 frames)) (λ _. says-leb frames 262144))
     (λ _. says-leb (base + frames) (2 ^ 36)))
     (λ _. says-leb blockOrder 10))
 
@@ -130,7 +130,7 @@ shape-says m t =
     (says-and
     (says-and
     (says-and
-    (says-and (memory-says (m .memory .base .0) (m .memory .frames) (m .memory .«block_order»)) (λ _. says-leb (m .memory .declared) 8))
+    (says-and (memory-says (m .memory .base .0) (m .memory .frames) (m .memory .«block_order»)) (λ _. says-leb (m .memory .declared) 64))
     (λ _. lengths-says (m .memory .frames) t))
     (λ _. areas-says m))
     (λ _. says-leb (firstWord (m .areas) (m .memory .declared)) (length (t .bitmap))))

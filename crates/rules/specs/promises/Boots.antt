@@ -56,14 +56,14 @@ module _ (base frames blockOrder : ℕ) (text : List ℕ) (t : Tables) where
     pub marks : Zeroed (t .marks) (o .left .marks)
     pub words : Zeroed (t .words) (o .left .words)
     pub bitmap : Zeroed (t .bitmap) (o .left .bitmap)
-    -- the record has what was given, and as many areas as the text has regions; its other area records, of eight, are zero
+    -- the record has what was given, and as many areas as the text has regions; its other area records, of 64, are zero
     pub the-base : o .machine .memory .base .0 ≡ base
     pub the-frames : o .machine .memory .frames ≡ frames
     pub the-order : o .machine .memory .«block_order» ≡ blockOrder
     pub reads : (at : ℕ) × (regions text ≡ gives gs at)
     pub declared : o .machine .memory .declared ≡ length gs
     pub unused : (i : ℕ) → length gs ≤ i → areaAt (o .machine) i ≡ noArea
-    pub eight : length (o .machine .areas) ≡ 8 * 3
+    pub numbers : length (o .machine .areas) ≡ 64 * 3
     -- its areas are those of the regions, declared on the zero tables of a record that has none
     pub areas : InTurn gs (bareRecord base frames blockOrder) (o .left) (o .machine)
 

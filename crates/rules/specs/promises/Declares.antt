@@ -146,7 +146,7 @@ module _ (m : Record) (r : Request) (t : Tables) where
     pub marks : o .left .marks ≡ t .marks
     pub words : o .left .words ≡ t .words
 
--- a record has eight area records, in use or not
+-- a record has the numbers of all area records, in use or not
 abbrev pub AcceptedDeclare : Type 0
 AcceptedDeclare =
     (m : Record) (r : Request) (t : Tables) →

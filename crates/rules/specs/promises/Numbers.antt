@@ -106,7 +106,7 @@ ShortBitmap m r t =
 abbrev pub declareRefusal : Request → Record → Tables → ℕ → Type 0
 declareRefusal r m t =
     WrongShape m t answers 1 otherwise
-    8 ≤ m .memory .declared answers 10 otherwise
+    64 ≤ m .memory .declared answers 10 otherwise
     BadAmounts r answers 2 otherwise
     m .memory .«block_order» < r .«order_per_bit» answers 11 otherwise
     SmallLimit m r answers 11 otherwise

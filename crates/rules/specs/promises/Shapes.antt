@@ -15,7 +15,7 @@ use Rattle.rules.specs.Shape.{shapeRight}
 pub record RightMemory (base frames blockOrder : ℕ) : Type 0 where
   pub base-least : 1 ≤ base
   pub frames-least : 1 ≤ frames
-  pub frames-most : frames ≤ 65536
+  pub frames-most : frames ≤ 262144
   pub end-most : base + frames ≤ 2 ^ 36
   pub order-most : blockOrder ≤ 10
 
@@ -41,7 +41,7 @@ pub record InArea (m : Record) (f i : ℕ) : Type 0 where
 
 pub record RightShape (m : Record) (t : Tables) : Type 0 where
   pub memory : RightMemory (m .memory .base .0) (m .memory .frames) (m .memory .«block_order»)
-  pub declared : m .memory .declared ≤ 8
+  pub declared : m .memory .declared ≤ 64
   pub lengths : RightLengths (m .memory .frames) t
   pub areas : (i : ℕ) → i < m .memory .declared → RightArea m (areaAt m i)
   -- no frame is in two of them

@@ -3,20 +3,18 @@
 use borrow.Author.Needs.{needs}
 use borrow.Author.Tests.{le-leb, lt-leb, eq-eqb, ne-eqb}
 use native.Mathlib.Omega.{arith}
-use Prim.Native.Nat.{_-_, _≤_, _<_}
+use Prim.Native.Nat.{_-_, _<_}
 use mathlib.Core.Path.{_≡_, sym}
-use mathlib.Core.Bool.{true, false}
+use mathlib.Core.Bool.{false}
 use lib.Dec.{leb, eqb}
 use Rattle.search.proofs.Bools.{below-or-not}
 use Rattle.frames.specs.declared.Area.{Area}
 use Rattle.frames.specs.Areas.{endOf, areDisjoint}
+use Rattle.shape.proofs.Disjoint.{ends-below}
 use Rattle.shape.proofs.apart.Statement.{statement}
 use Rattle.shape.proofs.apart.Tie as tie
 
 -- the area whose first frame is the lower, or the same, must end there; an empty one that begins with it does so too
-below : (a c : Area) → endOf a ≤ c .base .0 → areDisjoint a c ≡ true
-below a c h = simp (le-leb (endOf a) (c .base .0) h)
-
 inside : (a c : Area) → a .base .0 < c .base .0 → c .base .0 < endOf a → areDisjoint a c ≡ false
 inside a c h k = simp (lt-leb (endOf a) (c .base .0) k, lt-leb (endOf c) (a .base .0) (omega arith))
 
@@ -33,7 +31,7 @@ above a c h =
     (λ l. simp (lt-leb (endOf a) (c .base .0) (omega arith), le-leb (endOf c) (a .base .0) l, le-leb (c .count) (a .base .0 - c .base .0) (omega arith)))
 
 returns : tie.Need-returns
-returns c = let x = c .before .before .before .before .before .before .before .args in sym (below (x .a) (x .c) (omega arith))
+returns c = let x = c .before .before .before .before .before .before .before .args in sym (ends-below (x .a) (x .c) (omega arith))
 
 returns-2 : tie.Need-returns-2
 returns-2 c = let x = c .before .before .before .before .before .before .before .before .before .before .args in sym (inside (x .a) (x .c) (omega arith) (omega arith))

@@ -4,9 +4,10 @@ use borrow.Author.Tests.{le-leb, lt-leb, eq-eqb, ne-eqb}
 use native.Mathlib.Omega.{arith}
 use Prim.Native.Nat.{ℕ, _+_, _-_, _*_, _%_, _^_, _≤_}
 use native.Mathlib.Nat.{one-mul}
+use lib.Bits.{bitAnd, and-mask}
 use lib.Dec.{leb}
 use mathlib.Core.Bool.{true}
-use mathlib.Core.Path.{_≡_, sym, _∙_}
+use mathlib.Core.Path.{_≡_, sym, ap, _∙_}
 use lib.Pow.{pow-pos, shl-exact}
 use Rattle.search.proofs.Bools.{below-or-not, and-false-right}
 use Rattle.frames.specs.Areas.{endOf}
@@ -24,6 +25,10 @@ leb-shift x y z h =
 block : (base frames order : ℕ) → memoryRight base frames order ≡ true → 1 * 2 ^ order % 2 ^ 64 ≡ 2 ^ order
 block base frames order h = shl-exact 1 order 64 (omega (arith, memory-known base frames order h .order-high)) (omega (arith, memory-known base frames order h .order-high)) ∙ one-mul _
 
+-- so the bits below it are what is left of a number
+masked : (base frames order : ℕ) → memoryRight base frames order ≡ true → (x : ℕ) → bitAnd x (1 * 2 ^ order % 2 ^ 64 - 1) ≡ x % 2 ^ order
+masked base frames order h x = ap (λ (b : ℕ). bitAnd x (b - 1)) (block base frames order h) ∙ and-mask x order
+
 shl-block : tie.Need-shl-block
 shl-block c = omega (arith, memory-known _ _ _ (c .pre) .order-high)
 
@@ -38,19 +43,19 @@ returns-2 : tie.Need-returns-2
 unfolding areaRight
 returns-2 c = let x = c .before .before .before .before .before .args in simp (lt-leb (x .a .«order_per_bit») (x .memory .«block_order») (omega arith), and-false-right)
 
-rem-if3 : tie.Need-rem-if3
-rem-if3 c = rw (block _ _ _ (c .before .before .before .before .before .before .pre)) (omega (arith, pow-pos (c .before .before .before .before .before .before .args .memory .«block_order»)))
+sub-if3 : tie.Need-sub-if3
+sub-if3 c = rw (block _ _ _ (c .before .before .before .before .before .pre)) (omega (arith, pow-pos (c .before .before .before .before .before .args .memory .«block_order»)))
 
 returns-3 : tie.Need-returns-3
 unfolding areaRight
-returns-3 c = rw (← (block _ _ _ (c .before .before .before .before .before .before .before .pre))) (simp (ne-eqb _ _ (c .if3 .taken), and-false-right))
+returns-3 c = rw (← (masked _ _ _ (c .before .before .before .before .before .before .before .pre) (c .before .before .before .before .before .before .before .args .a .base .0))) (simp (ne-eqb _ _ (c .if3 .taken), and-false-right))
 
-rem-if4 : tie.Need-rem-if4
-rem-if4 c = rw (block _ _ _ (c .before .before .before .before .before .before .before .before .pre)) (omega (arith, pow-pos (c .before .before .before .before .before .before .before .before .args .memory .«block_order»)))
+sub-if4 : tie.Need-sub-if4
+sub-if4 c = rw (block _ _ _ (c .before .before .before .before .before .before .before .pre)) (omega (arith, pow-pos (c .before .before .before .before .before .before .before .args .memory .«block_order»)))
 
 returns-4 : tie.Need-returns-4
 unfolding areaRight
-returns-4 c = rw (← (block _ _ _ (c .before .before .before .before .before .before .before .before .before .pre))) (simp (ne-eqb _ _ (c .if4 .taken), and-false-right))
+returns-4 c = rw (← (masked _ _ _ (c .before .before .before .before .before .before .before .before .before .pre) (c .before .before .before .before .before .before .before .before .before .args .a .count))) (simp (ne-eqb _ _ (c .if4 .taken), and-false-right))
 
 returns-5 : tie.Need-returns-5
 unfolding areaRight
@@ -64,7 +69,7 @@ returns-7 : tie.Need-returns-7
 unfolding areaRight
 returns-7 c =
     let x = c .before .before .before .before .before .before .before .before .before .before .before .before .before .before .before .before .args in
-    rw (← (block _ _ _ (c .before .before .before .before .before .before .before .before .before .before .before .before .before .before .before .before .pre)))
+    rw (← (masked _ _ _ (c .before .before .before .before .before .before .before .before .before .before .before .before .before .before .before .before .pre) (x .a .base .0)), ← (masked _ _ _ (c .before .before .before .before .before .before .before .before .before .before .before .before .before .before .before .before .pre) (x .a .count)))
     (simp (le-leb 1 (x .a .count) (omega arith), le-leb (x .a .«order_per_bit») (x .memory .«block_order») (omega arith), eq-eqb _ _ (c .before .before .before .before .before .before .before .before .before .if3 .left), eq-eqb _ _ (c .before .before .before .before .before .before .before .if4 .left), le-leb (x .memory .base .0) (x .a .base .0) (omega arith))
     (leb-shift (x .a .count) (x .a .base .0) (x .memory .base .0 + x .memory .frames) (omega arith)))
 
@@ -76,9 +81,9 @@ area-right-spec =
     add-end
     returns
     returns-2
-    rem-if3
+    sub-if3
     returns-3
-    rem-if4
+    sub-if4
     returns-4
     returns-5
     returns-6

@@ -1,5 +1,5 @@
 -- `frames::marks::has_free_ordinary` meets its contract: run by run, what is left to find beside what is left to search. Assumes nothing.
-use Prim.Native.Nat.{ℕ, _-_, _≤_}
+use Prim.Native.Nat.{ℕ, _-_, _≤_, min}
 use native.Mathlib.Omega.{arith}
 use mathlib.Core.Path.{_≡_, sym, ap, _∙_}
 use borrow.Author.Needs.{needs}
@@ -8,48 +8,56 @@ use lib.Dec.{leb}
 use lib.ListN.{length}
 use Rattle.search.specs.Search.{howMany}
 use Rattle.search.proofs.Counts.{many-zero}
+use Rattle.frames.specs.Areas.{mostAreas}
 use Rattle.frames.specs.Scans.{isFreeOrdinary}
+use Rattle.frames.specs.steps.Orders.{Ordered}
+use Rattle.frames.specs.steps.Runs.{inUse, Passed}
 use Rattle.frames.proofs.RunFacts.{run-left, eqb-zero}
 use Rattle.frames.proofs.marks.has_free_ordinary.Statement.{statement}
 use Rattle.frames.proofs.marks.has_free_ordinary.Tie as tie
 
 abbrev Inv-loop : tie.InvT-loop
-Inv-loop marks base areas declared least len left₀ i₀ left i =
-    (i ≤ len) × (leb least (howMany (isFreeOrdinary marks base areas declared) 0 len) ≡ leb left (howMany (isFreeOrdinary marks base areas declared) i (len - i)))
+Inv-loop marks base areas declared least len order left₀ i₀ next₀ left i next =
+    (i ≤ len) × (leb least (howMany (isFreeOrdinary marks base areas (min declared mostAreas)) 0 len) ≡ leb left (howMany (isFreeOrdinary marks base areas (min declared mostAreas)) i (len - i))) ×
+    Ordered areas (inUse areas (min declared mostAreas)) order × (next ≤ inUse areas (min declared mostAreas)) × Passed base areas order len i next
 
 abbrev μ-loop : tie.MeasureT-loop
-μ-loop marks base areas declared least len left₀ i₀ left i = len - i
+μ-loop marks base areas declared least len order left₀ i₀ next₀ left i next = len - i
+
+in-order-requires : tie.Need-in-order-requires Inv-loop μ-loop
+in-order-requires c κs = tt
 
 loop-holds : tie.Need-loop-holds Inv-loop μ-loop
 loop-holds c =
-    let at = c .before .before .args in
-    let p = isFreeOrdinary (at .marks .now) (at .base) (at .areas .now) (at .declared) in
-    (omega arith, ap (λ (d : ℕ). leb (at .least) (howMany p 0 d)) (omega arith))
+    let at = c .before .before .before .args in
+    let p = isFreeOrdinary (at .marks .now) (at .base) (at .areas .now) (min (at .declared) mostAreas) in
+    (omega arith, ap (λ (d : ℕ). leb (at .least) (howMany p 0 d)) (omega arith), c .in-order .ensures, omega arith, λ p h. absurd (omega arith))
 
 returns : tie.Need-returns Inv-loop μ-loop
 returns c =
-    let at = c .before .before .before .before .before .args in
-    let rest = howMany (isFreeOrdinary (at .marks .now) (at .base) (at .areas .now) (at .declared)) (c .before .before .loop .i) _ in
+    let at = c .before .before .before .before .before .before .args in
+    let rest = howMany (isFreeOrdinary (at .marks .now) (at .base) (at .areas .now) (min (at .declared) mostAreas)) (c .before .before .loop .i) _ in
     sym (c .before .before .loop .inv .1 ∙ le-leb _ rest (omega arith))
 
-ordinary-run-requires : tie.Need-ordinary-run-requires Inv-loop μ-loop
-ordinary-run-requires c κs = search needs
+next-run-requires : tie.Need-next-run-requires Inv-loop μ-loop
+next-run-requires c κs = search needs
 
 less-free-requires : tie.Need-less-free-requires Inv-loop μ-loop
-less-free-requires c κs = (c .ordinary-run .ensures .ordered, c .ordinary-run .ensures .high)
+less-free-requires c κs = (c .next-run .ensures .0 .ordered, c .next-run .ensures .0 .high)
 
 loop-less : tie.Need-loop-less Inv-loop μ-loop
-loop-less c = omega (arith, c .before .ordinary-run .ensures .more, c .before .ordinary-run .ensures .high)
+loop-less c = omega (arith, c .before .next-run .ensures .0 .more, c .before .next-run .ensures .0 .high)
 
 loop-again : tie.Need-loop-again Inv-loop μ-loop
 loop-again c =
-    let run = c .before .ordinary-run .ensures in
-    (run .high, c .before .before .before .before .loop .inv .1 ∙ run-left _ run _ _ (c .less-free .ensures))
+    let inv = c .before .before .before .before .loop .inv in
+    let walked = c .before .next-run .ensures .1 _ (inv .2) (inv .3) (inv .4) in
+    (walked .run .high, inv .1 ∙ run-left _ (walked .run) _ _ (c .less-free .ensures), inv .2, walked .next, walked .passed)
 
 returns-2 : tie.Need-returns-2 Inv-loop μ-loop
 returns-2 c =
-    let at = c .before .before .before .before .args in
-    let p = isFreeOrdinary (at .marks .now) (at .base) (at .areas .now) (at .declared) in
+    let at = c .before .before .before .before .before .args in
+    let p = isFreeOrdinary (at .marks .now) (at .base) (at .areas .now) (min (at .declared) mostAreas) in
     let i = c .before .loop .i in
     let none : howMany p i (length (at .marks .now) - i) ≡ 0 = many-zero p i (length (at .marks .now) - i) (λ k a b. absurd (omega arith)) in
     eqb-zero (c .before .loop .left) ∙ sym (c .before .loop .inv .1 ∙ ap (leb (c .before .loop .left)) none)
@@ -60,9 +68,10 @@ has-free-ordinary-spec =
     (tie.spec
     Inv-loop
     μ-loop
+    in-order-requires
     loop-holds
     returns
-    ordinary-run-requires
+    next-run-requires
     less-free-requires
     loop-less
     loop-again

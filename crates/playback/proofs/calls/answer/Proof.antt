@@ -5,11 +5,16 @@ use native.Mathlib.Omega.{arith}
 use mathlib.Core.Path.{sym}
 use denote.Ref.{now}
 use Rattle.frames.specs.Tables.{Tables, tables}
+use Rattle.rules.specs.declared.Record.{Record}
+use Rattle.rules.specs.Does.{recordWith}
 use Rattle.playback.proofs.Lending.{few-marks, few-words, answered}
 use Rattle.playback.proofs.calls.answer.Statement.{statement}
 use Rattle.playback.proofs.calls.answer.Tie as tie
 
--- the tables that the caller lends
+-- the record and the tables that the caller lends
+abbrev record-of : tie.Start → Record
+record-of c = recordWith (c .args .machine .memory) (now (c .args .areas))
+
 abbrev lent-by : tie.Start → Tables
 lent-by c = tables (now (c .args .marks)) (now (c .args .words)) (now (c .args .bitmap))
 
@@ -21,18 +26,18 @@ wrong-shape-requires c κs = search needs
 
 returns : tie.Need-returns
 returns c =
-    let start = c .before .before .before .before .before .before in
+    let start = c .before .before .before .before .before .before .before in
     let frames = c .before .before .frames-for .ensures in
-    rw (c .wrong-shape .ensures) (sym (few-marks (start .args .call) (start .args .machine .«record») (lent-by start) (omega arith)))
+    rw (c .wrong-shape .ensures) (sym (few-marks (start .args .call) (record-of start) (lent-by start) (omega arith)))
 
 wrong-shape-requires-2 : tie.Need-wrong-shape-requires-2
 wrong-shape-requires-2 c κs = search needs
 
 returns-2 : tie.Need-returns-2
 returns-2 c =
-    let start = c .before .before .before .before .before .before .before in
+    let start = c .before .before .before .before .before .before .before .before in
     let frames = c .before .before .before .frames-for .ensures in
-    rw (c .wrong-shape2 .ensures) (sym (few-words (start .args .call) (start .args .machine .«record») (lent-by start) (omega arith)))
+    rw (c .wrong-shape2 .ensures) (sym (few-words (start .args .call) (record-of start) (lent-by start) (omega arith)))
 
 sub-perform : tie.Need-sub-perform
 sub-perform c = search needs
@@ -67,15 +72,18 @@ same-length-2 c = search needs
 same-length-3 : tie.Need-same-length-3
 same-length-3 c = search needs
 
+same-length-4 : tie.Need-same-length-4
+same-length-4 c = search needs
+
 returns-3 : tie.Need-returns-3
 returns-3 c =
-    let start = c .before .before .before .before .before .before .before .before .before .before .before .before .before .before .before .before .before in
-    let frames = c .before .before .before .before .before .before .before .before .before .before .before .before .before .frames-for in
+    let start = c .before .before .before .before .before .before .before .before .before .before .before .before .before .before .before .before .before .before .before .before .before in
+    let frames = c .before .before .before .before .before .before .before .before .before .before .before .before .before .before .before .before .frames-for in
     let same = frames .ensures in
-    let made = c .before .before .before .before .before .before .perform in
-    answered (start .args .call) (start .args .machine .«record») (lent-by start) (frames .result - 0)
-    (made .result .machine .«record») (made .result .answer) (made .last .1 .0) (made .last .1 .1 .0) (made .last .1 .1 .1 .0)
-    (omega arith) (omega (arith, c .before .before .before .before .before .before .before .before .before .before .before .before .if1 .left)) (omega (arith, c .before .before .before .before .before .before .before .before .before .before .before .if2 .left)) (made .ensures)
+    let made = c .before .before .before .before .before .before .before .before .perform in
+    answered (start .args .call) (record-of start) (lent-by start) (frames .result - 0)
+    (recordWith (made .result .machine .memory) (made .last .1 .0)) (made .result .answer) (made .last .1 .1 .0) (made .last .1 .1 .1 .0) (made .last .1 .1 .1 .1 .0)
+    (start .pre) (omega arith) (omega (arith, c .before .before .before .before .before .before .before .before .before .before .before .before .before .before .before .if1 .left)) (omega (arith, c .before .before .before .before .before .before .before .before .before .before .before .before .before .before .if2 .left)) (made .ensures)
 
 pub answer-spec : {M : Type 1} → statement M
 answer-spec =
@@ -97,4 +105,5 @@ answer-spec =
     same-length
     same-length-2
     same-length-3
+    same-length-4
     returns-3)

@@ -14,7 +14,7 @@ unfolding framesFor
 returns c = rw (c .before .call .given .1)
 
 returns-2 : tie.Need-returns-2
-returns-2 c = sym (not-boot (c .before .args .machine .«record») (c .before .args .call) (c .match .keys2))
+returns-2 c = sym (not-boot (c .before .args .machine .memory) (c .before .args .call) (c .match .keys2))
 
 pub frames-for-spec : {M : Type 1} → statement M
 frames-for-spec = tie.close (tie.spec enum-known-call returns returns-2)

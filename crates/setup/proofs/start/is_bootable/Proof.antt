@@ -3,20 +3,24 @@ use Rattle.search.proofs.Bools.{and-false-right}
 use mathlib.Core.Path.{refl, sym, _∙_}
 use native.Mathlib.Omega.{arith}
 use borrow.Author.Tests.{eq-eqb, ne-eqb, not-true, not-false}
+use Rattle.rules.specs.Limits.{mostAreaNumbers}
 use Rattle.setup.proofs.start.is_bootable.Statement.{statement}
 use Rattle.setup.proofs.start.is_bootable.Tie as tie
+
+returns : tie.Need-returns
+returns c = simp (ne-eqb _ _ (c .if1 .taken))
 
 memory-right-requires : tie.Need-memory-right-requires
 memory-right-requires c κs = tt
 
-returns : tie.Need-returns
-returns c = simp (sym (c .before .memory-right .ensures) ∙ not-true _ (c .if1 .taken))
-
 returns-2 : tie.Need-returns-2
-returns-2 c = simp (ne-eqb _ _ (c .if2 .taken), and-false-right)
+returns-2 c = simp (sym (c .before .memory-right .ensures) ∙ not-true _ (c .if2 .taken), and-false-right)
 
 returns-3 : tie.Need-returns-3
-returns-3 c = let x = c .before .before .before .args in rw (sym (c .before .before .memory-right .ensures) ∙ not-false _ (c .before .if1 .left), eq-eqb (x .marks) (x .frames) (omega arith)) refl
+returns-3 c = simp (ne-eqb _ _ (c .if3 .taken), and-false-right)
+
+returns-4 : tie.Need-returns-4
+returns-4 c = let x = c .before .before .before .before .args in rw (eq-eqb (x .areas) mostAreaNumbers (omega arith), sym (c .before .before .memory-right .ensures) ∙ not-false _ (c .before .if2 .left), eq-eqb (x .marks) (x .memory .frames) (omega arith)) refl
 
 pub is-bootable-spec : {M : Type 1} → statement M
-is-bootable-spec = tie.close (tie.spec memory-right-requires returns returns-2 returns-3)
+is-bootable-spec = tie.close (tie.spec returns memory-right-requires returns-2 returns-3 returns-4)

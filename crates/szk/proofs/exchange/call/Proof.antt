@@ -1,5 +1,6 @@
 -- `szk::exchange::call` meets its contract: it is stopped before the call, or gives the call's outcome back. Assumes nothing.
 use borrow.Author.Needs.{needs}
+use native.Mathlib.Omega.{arith}
 use Rattle.szk.proofs.LentFacts.{room, stopped, performed}
 use Rattle.szk.proofs.exchange.call.Statement.{statement}
 use Rattle.szk.proofs.exchange.call.Tie as tie
@@ -19,14 +20,22 @@ returns c = stopped (c .before .before .before .refuse-short .ensures) _ _ _ (c 
 load-requires : tie.Need-load-requires
 load-requires c κs = room (c .before .before .before .before .refuse-short .ensures) (c .before .if1 .left) .record-long
 
+sub-perform : tie.Need-sub-perform
+sub-perform c = search needs
+
+part-perform-start : tie.Need-part-perform-start
+part-perform-start c = search needs
+
+part-perform-end : tie.Need-part-perform-end
+part-perform-end c = let long = room (c .before .before .before .before .before .refuse-short .ensures) (c .before .before .if1 .left) .record-long in omega arith
+
 perform-requires : tie.Need-perform-requires
 perform-requires c κs = search needs
 
 give-back-requires : tie.Need-give-back-requires
 give-back-requires c κs =
-    let judged = c .before .before .before .before .before .before .before .before .before .before .before .before .before .before in
-    let long = room (judged .before .before .before .refuse-short .ensures) (judged .if1 .left) in
-    (long .record-long, long .after-long)
+    let long = room (c .before .before .before .before .before .before .before .before .before .before .before .before .before .before .before .before .before .before .before .before .refuse-short .ensures) (c .before .before .before .before .before .before .before .before .before .before .before .before .before .before .before .before .before .if1 .left) in
+    (omega (arith, long .record-long), long .after-long)
 
 same-length-3 : tie.Need-same-length-3
 same-length-3 c = search needs
@@ -45,9 +54,7 @@ same-length-7 c = search needs
 
 returns-2 : tie.Need-returns-2
 returns-2 c =
-    let called = c .before .before .before .before .before .before .before .before .before .before .before .before .before in
-    let judged = called .before .before .before .before .before .before in
-    performed (judged .before .before .before .refuse-short .ensures) _ _ _ (judged .if1 .left) (called .before .before .before .before .load .ensures) (called .perform .ensures)
+    performed (c .before .before .before .before .before .before .before .before .before .before .before .before .before .before .before .before .before .before .before .before .before .before .before .before .before .refuse-short .ensures) _ _ _ (c .before .before .before .before .before .before .before .before .before .before .before .before .before .before .before .before .before .before .before .before .before .before .if1 .left) (c .before .before .before .before .before .before .before .before .before .before .before .before .before .before .before .before .before .before .before .before .load .ensures) (c .before .before .before .before .before .before .before .before .before .before .before .before .before .before .before .perform .ensures) (omega arith)
     (c .before .before .before .before .give-back .ensures .0) (c .before .before .before .before .give-back .ensures .1)
 
 pub call-spec : {M : Type 1} → statement M
@@ -59,6 +66,9 @@ call-spec =
     same-length-2
     returns
     load-requires
+    sub-perform
+    part-perform-start
+    part-perform-end
     perform-requires
     give-back-requires
     same-length-3

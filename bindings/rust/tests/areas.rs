@@ -1,0 +1,97 @@
+//! Many areas among ordinary frames, declared in any order: where a put goes, and where a grant's pages go, are held against the reference.
+
+mod held;
+
+use held::Held;
+use reference::sample::Rng;
+use reference::{Area, Call, Machine, State};
+
+/// Areas of up to `longest` frames with gaps of up to as many between them, upwards, downwards or in any order.
+fn areas(rng: &mut Rng, machine: &Machine, longest: u64) -> Vec<Area> {
+    let mut areas = Vec::new();
+    let mut at = machine.base + rng.below(2);
+    let most = rng.within(9, Machine::MAX_AREAS) as usize;
+    while areas.len() < most {
+        let count = rng.within(1, longest);
+        if at + count > machine.end() {
+            break;
+        }
+        areas.push(Area { base: at, count, order: 0 });
+        at += count + rng.below(longest + 1);
+    }
+    match rng.below(3) {
+        0 => areas.reverse(),
+        1 => {
+            for i in (1..areas.len()).rev() {
+                areas.swap(i, rng.below(i as u64 + 1) as usize);
+            }
+        }
+        _ => {}
+    }
+    areas
+}
+
+/// A machine with pages in most frames: movable ones in its areas, and elsewhere so many free frames in a thousand.
+fn crowded(rng: &mut Rng, frames: u64, longest: u64, free: u64) -> State {
+    let mut machine = Machine { base: rng.within(1, 100), frames, ..Machine::fresh() };
+    let areas = areas(rng, &machine, longest);
+    machine.declared = areas.len() as u64;
+    machine.areas[..areas.len()].copy_from_slice(&areas);
+    let mark = |place: u64| {
+        let in_area = areas.iter().any(|a| a.holds(machine.base + place));
+        let kind = match rng.below(1000) {
+            x if !in_area && x < free => 0,
+            x if in_area && x < 300 => 0,
+            x if in_area && x < 320 => 2,
+            x if !in_area && x % 2 == 0 => 3,
+            _ => 1,
+        };
+        if kind == 0 { 0 } else { (8 * (place + 1) + kind) as u32 }
+    };
+    let marks: Vec<u32> = (0..frames).map(mark).collect();
+    let bitmap = vec![0; machine.bitmap_words() as usize];
+    State { machine, marks, words: (0..frames).map(|word| 77 * word).collect(), bitmap }
+}
+
+fn call(rng: &mut Rng, state: &State, name: u64) -> Call {
+    let area = rng.below(state.machine.declared);
+    match rng.below(10) {
+        0..=5 => Call::Grant { area, count: rng.within(1, state.machine.areas[area as usize].count), align: rng.below(2) },
+        6 => Call::PutMovable { name },
+        7 => Call::PutFixed { name },
+        _ => Call::Drop { name: rng.within(1, state.machine.frames) },
+    }
+}
+
+/// Lists of calls on such machines agree; answers how many grants moved pages, and how many pages were moved.
+fn agree(seed: u64, lists: u64, calls: u64, frames: u64, longest: u64) -> (u64, u64) {
+    let (mut grants, mut moved) = (0, 0);
+    for list in 0..lists {
+        let mut rng = Rng::new(seed + list);
+        let free = rng.pick(&[0, 10, 100, 400]);
+        let mut state = crowded(&mut rng, frames, longest, free);
+        let mut held = Held::of(&state);
+        for step in 0..calls {
+            let call = call(&mut rng, &state, frames + 1 + step);
+            let expected = state.apply(&call);
+            let answer = held.make(&call);
+            assert!(held.agrees(answer, &state, expected), "list {list}, step {step}: {call:?} on {:?}", state.machine);
+            if matches!(call, Call::Grant { .. }) && expected.refusal == 0 && expected.second > 0 {
+                grants += 1;
+                moved += expected.second;
+            }
+        }
+    }
+    (grants, moved)
+}
+
+#[test]
+fn pages_move_out_among_many_areas() {
+    for (seed, lists, calls, frames, longest) in
+        [(1, 300, 40, 150, 1), (1000, 300, 40, 600, 4), (2000, 60, 40, 2048, 15), (3000, 12, 20, 20_000, 100), (4000, 40, 12, 262_144, 3)]
+    {
+        let (grants, moved) = agree(seed, lists, calls, frames, longest);
+        println!("{frames} frames: {grants} grants moved {moved} pages");
+        assert!(grants > lists, "few grants moved pages");
+    }
+}

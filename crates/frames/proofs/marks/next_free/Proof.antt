@@ -1,0 +1,71 @@
+-- `frames::marks::next_free` meets its contract: the run's own places first, and then from its end on. Assumes nothing.
+use Prim.Native.Nat.{ℕ, _-_}
+use native.Mathlib.Nat.{le-refl}
+use native.Mathlib.Omega.{arith}
+use mathlib.Core.Path.{_≡_, sym, _∙_}
+use Rattle.search.specs.Search.{lowestFrom}
+use Rattle.search.proofs.Lowest.{Least, lowest-least}
+use lib.ListN.{length}
+use Rattle.frames.specs.Marks.{hasKind, free}
+use Rattle.frames.specs.Scans.{marked, isFreeOrdinary}
+use Rattle.frames.specs.steps.Runs.{Walks, OrdinaryRun}
+use Rattle.frames.proofs.Stuck.{seek-free}
+use Rattle.frames.proofs.ScanFacts.{Seeking, seek-start}
+use Rattle.frames.proofs.RunFacts.{run-hit, run-skip}
+use Rattle.frames.proofs.marks.next_free.Statement.{statement}
+use Rattle.frames.proofs.marks.next_free.Tie as tie
+
+earlier-requires : tie.Need-earlier-requires
+earlier-requires c κs = tt
+
+free-run-requires : tie.Need-free-run-requires
+free-run-requires c κs = tt
+
+returns : tie.Need-returns
+returns c n ord walks = c .free-run .ensures n ord (walks .next) (λ p h. omega (arith, walks .passed p h, c .before .before .before .before .earlier .ensures, c .before .if1 .taken))
+
+kind-in-requires : tie.Need-kind-in-requires
+kind-in-requires c κs = (omega arith, omega (arith, c .before .before .before .earlier .ensures))
+
+-- a run of ordinary places, from its own first place on, as far as the table goes
+known : (c : tie.Else1) (n : ℕ) → Walks (c .before .before .before .before .before .before .before .args .base) (c .before .before .before .before .before .before .before .args .areas .now) n (length (c .before .before .before .before .before .before .before .args .marks .now)) (c .before .before .before .before .before .before .before .args .order) (c .before .before .before .before .before .before .before .args .run)
+    → OrdinaryRun (c .before .before .before .before .before .before .before .args .base) (c .before .before .before .before .before .before .before .args .areas .now) n (c .before .before .before .before .before .before .before .args .run .from .0) (length (c .before .before .before .before .before .before .before .args .marks .now)) (c .before .before .before .before .before .before .before .args .run .from .0) (c .before .before .before .earlier .result .0)
+known c n walks =
+    let end = c .before .before .before .earlier .ensures in
+    record { low = le-refl _; ordered = omega arith; more = omega arith; high = omega arith; held = λ k a b. absurd (omega arith); clear = λ k a b. walks .ordinary k a (omega arith) }
+
+-- what the scan found is the lowest free place of the run
+found : (c : tie.After-kind-in) → c .kind-in .result .0 ≡ lowestFrom (marked (hasKind free) (c .before .before .before .before .before .before .before .before .args .marks .now)) (c .before .before .before .before .before .before .before .before .args .run .from .0) (c .before .before .before .before .earlier .result .0 - c .before .before .before .before .before .before .before .before .args .run .from .0)
+found c = c .kind-in .ensures ∙ seek-free (c .before .before .before .before .before .before .before .before .args .marks .now) (c .before .before .before .before .before .before .before .before .args .run .from .0) (c .before .before .before .before .earlier .result .0 - c .before .before .before .before .before .before .before .before .args .run .from .0)
+
+returns-2 : tie.Need-returns-2
+returns-2 c n ord walks =
+    let x = c .before .before .before .before .before .before .before .before .before .before .before .args in
+    let end = c .before .before .before .before .before .before .before .earlier .ensures in
+    let l : Least (marked (hasKind free) (x .marks .now)) (x .run .from .0) (c .before .before .before .before .before .before .before .earlier .result .0 - x .run .from .0) (c .before .before .before .kind-in .result .0) =
+    rw (found (c .before .before .before)) (lowest-least (marked (hasKind free) (x .marks .now)) (x .run .from .0) (c .before .before .before .before .before .before .before .earlier .result .0 - x .run .from .0))
+    in
+    record {
+      found = run-hit (x .marks .now) (known (c .before .before .before .before) n walks) (c .before .before .before .kind-in .result .0) seek-start (found (c .before .before .before)) (c .if2 .taken);
+      walks = record {
+        ordinary = λ k low high. walks .ordinary k (omega (arith, l .low)) (omega arith);
+        next = walks .next;
+        passed = λ p h. omega (arith, walks .passed p h);
+      };
+    }
+
+free-run-requires-2 : tie.Need-free-run-requires-2
+free-run-requires-2 c κs = tt
+
+returns-3 : tie.Need-returns-3
+returns-3 c n ord walks =
+    let x = c .before .before .before .before .before .before .before .before .before .before .before .before .args in
+    let end = c .before .before .before .before .before .before .before .before .earlier .ensures in
+    let rest : Seeking (isFreeOrdinary (x .marks .now) (x .base) (x .areas .now) n) (x .run .from .0) (length (x .marks .now)) (c .before .before .before .before .before .before .before .before .earlier .result .0) =
+    run-skip (x .marks .now) (known (c .before .before .before .before .before) n walks) (c .before .before .before .before .kind-in .result .0) seek-start (found (c .before .before .before .before)) (c .before .if2 .left)
+    in
+    let after = c .free-run2 .ensures n ord (walks .next) (λ p h. omega (arith, walks .passed p h)) in
+    record { found = after .found ∙ sym (rest .rest); walks = after .walks }
+
+pub next-free-spec : {M : Type 1} → statement M
+next-free-spec = tie.close (tie.spec earlier-requires free-run-requires returns kind-in-requires returns-2 free-run-requires-2 returns-3)
