@@ -73,7 +73,7 @@ pub fn past_set_bits(each: u64, align: u64, grants: u64) -> Vec<u8> {
 
 /// Puts past sixty areas of one frame, declared in mixed order, and the single
 /// ordinary frames between them, which are used; each page is dropped again.
-pub fn past_areas(puts: u64) -> Vec<u8> {
+pub fn past_many_areas(puts: u64) -> Vec<u8> {
     const AREAS: u64 = 60;
     let mut day = Day { station: Station::new(), out: Vec::new(), first: 0 };
     day.make(Call::Boot { base: 1, frames: FRAMES as u64, order: 0, text: Vec::new() });

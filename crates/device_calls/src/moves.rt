@@ -69,9 +69,12 @@ pub(crate) fn move_out(
     ensures { λ _. ⌜ tables (now (marks .exit)) (now (words .exit)) [] ≡ moveOut (given memory areas) (tables (now (marks .entry)) (now (words .entry)) []) page count ⌝ }
 {
     let end = Place(page.0 + count as usize);
+    let mut at = next_movable(marks, page, end);
+    if end.0 <= at.0 {
+        return;
+    }
     let order = in_order(areas, memory.declared);
     let mut run = Run::none();
-    let mut at = next_movable(marks, page, end);
     while at.0 < end.0 {
         run = next_free(marks, memory.base, areas, order, run);
         let to = run.first();

@@ -9,9 +9,9 @@ use mathlib.Core.List.{List}
 use lib.Dec.{leb, ltb}
 use lib.ListN.{length}
 use lib.Pow.{shl-exact}
-use borrow.Author.Tests.{lt-ltb, le-ltb, le-leb, lt-leb, leb-true, ltb-true}
-use Rattle.search.proofs.Bools.{below-or-not, clash, and-left, and-right, and-both, and-false-right}
-use Rattle.search.proofs.Ranges.{some-hit, none-some, some-no}
+use borrow.Author.Tests.{lt-ltb, le-ltb, le-leb, lt-leb}
+use Rattle.search.proofs.Bools.{below-or-not, and-both, and-false-right}
+use Rattle.search.proofs.Ranges.{some-hit, none-some}
 use Rattle.frames.specs.declared.Area.{Area}
 use Rattle.frames.specs.declared.Frame.{Frame}
 use Rattle.frames.specs.Units.{frame}
@@ -30,29 +30,11 @@ module _ (a : Area) (f : ℕ) where
   pub holds-above : endOf a ≤ f → holdsFrame a (frame f) ≡ false
   holds-above h = rw (le-ltb f (endOf a) h) (and-false-right (leb (a .base .0) f))
 
-  pub holds-first : holdsFrame a (frame f) ≡ true → a .base .0 ≤ f
-  holds-first e = leb-true (a .base .0) f (and-left (leb (a .base .0) f) (ltb f (endOf a)) e)
-
-  pub holds-last : holdsFrame a (frame f) ≡ true → f < endOf a
-  holds-last e = ltb-true f (endOf a) (and-right (leb (a .base .0) f) (ltb f (endOf a)) e)
-
-  pub holds-not : a .base .0 ≤ f → holdsFrame a (frame f) ≡ false → endOf a ≤ f
-  holds-not h e = below-or-not f (endOf a) (λ w. clash (holdsFrame a (frame f)) (holds-yes h w) e) (λ w. w)
-
-  -- the frame is past the first of the area, and a comparison says whether it is past the last
-  pub holds-by : (x y : ℕ) → a .base .0 ≤ f → (x < y → f < endOf a) → (y ≤ x → endOf a ≤ f) → ltb x y ≡ holdsFrame a (frame f)
-  holds-by x y h yes-case no-case =
-      below-or-not x y (λ w. lt-ltb x y w ∙ sym (holds-yes h (yes-case w))) (λ w. le-ltb x y w ∙ sym (holds-above (no-case w)))
-
 -- ---- the first n areas of a record's numbers
 module _ (areas : List ℕ) (n : ℕ) (f : Frame) where
   pub in-area : (i : ℕ) → i < n → holdsFrame (areaIn areas i) f ≡ true → inAreas areas n f ≡ true
   unfolding inAreas
   in-area i h e = some-hit (λ i. holdsFrame (areaIn areas i) f) 0 n i (omega arith) (omega arith) e
-
-  pub out-of-area : inAreas areas n f ≡ false → (i : ℕ) → i < n → holdsFrame (areaIn areas i) f ≡ false
-  unfolding inAreas
-  out-of-area e i h = some-no (λ i. holdsFrame (areaIn areas i) f) 0 n e i (omega arith) (omega arith)
 
   -- past the end of the numbers there is none
   pub out-of-areas : ((i : ℕ) → i < inUse areas n → holdsFrame (areaIn areas i) f ≡ false) → inAreas areas n f ≡ false

@@ -278,7 +278,8 @@ fn is_movable(mark: u32) -> u64
 }
 
 // The lowest free place from `from` on that is in none of the areas of an order, in a table that begins at frame `base`, and the end of the
-// ordinary places that it is among; the place after the last for both where there is none. The areas before k end before `from`.
+// ordinary places that it is among; where there is none, the place after the last, or `from` where that is past it, for both. The areas before k
+// end before `from`.
 fn free_run(marks: &[u32], base: Frame, areas: &[u64], order: Order, from: Place, k: usize) -> Run
     ensures { λ r. ⌜ FindsFree (now (marks .entry)) base (now (areas .entry)) order (from .0) k r ⌝ }
 {
@@ -306,7 +307,7 @@ fn free_run(marks: &[u32], base: Frame, areas: &[u64], order: Order, from: Place
     }
 }
 
-// The lowest free place that is in none of the first `declared` areas.
+// The lowest free place that is in none of the first `declared` areas, as far as a record can have them.
 pub fn find_free_ordinary(marks: &[u32], base: Frame, areas: &[u64], declared: u64) -> Place
     ensures { λ r. ⌜ r ≡ place (lowest (isFreeOrdinary (now (marks .entry)) base (now (areas .entry)) (min declared mostAreas)) (length (now (marks .entry)))) ⌝ }
 {
@@ -364,7 +365,7 @@ fn is_free(mark: u32) -> u64
     0
 }
 
-// At least `least` free places are in none of the first `declared` areas.
+// At least `least` free places are in none of the first `declared` areas, as far as a record can have them.
 pub fn has_free_ordinary(
     marks: &[u32],
     base: Frame,
@@ -374,6 +375,9 @@ pub fn has_free_ordinary(
 ) -> bool
     ensures { λ r. ⌜ r ≡ leb least (howMany (isFreeOrdinary (now (marks .entry)) base (now (areas .entry)) (min declared mostAreas)) 0 (length (now (marks .entry)))) ⌝ }
 {
+    if least == 0 {
+        return true;
+    }
     let len = marks.len();
     let order = in_order(areas, declared);
     let mut left = least;

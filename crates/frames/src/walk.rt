@@ -36,7 +36,7 @@ impl Run {
     }
 }
 
-// The earlier of two places; the later.
+// The earlier of two places.
 pub(crate) fn earlier(a: Place, b: Place) -> Place
     ensures { λ r. ⌜ r .0 ≡ min (a .0) (b .0) ⌝ }
 {
@@ -46,6 +46,7 @@ pub(crate) fn earlier(a: Place, b: Place) -> Place
     a
 }
 
+// The later of two places.
 fn later(a: Place, b: Place) -> Place
     ensures { λ r. ⌜ r .0 ≡ max (a .0) (b .0) ⌝ }
 {

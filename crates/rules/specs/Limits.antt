@@ -19,6 +19,7 @@ mostEnd = 2 ^ 36
 abbrev pub mostBlockOrder : ℕ
 mostBlockOrder = 10
 
+-- the scans of `frames` list areas, so that it stands there
 abbrev pub mostAreas : ℕ
 mostAreas = Areas.mostAreas
 

@@ -36,6 +36,7 @@ impl Record {
 
     pub const MOST_BLOCK_ORDER: u64 = 10;
 
+    // The scans of `frames` list areas, so that it stands there.
     pub const MOST_AREAS: u64 = Area::MOST as u64;
 
     pub const LEAST_NAME: u64 = 1;

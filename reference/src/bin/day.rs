@@ -18,7 +18,7 @@ fn records(words: &[&str]) -> Option<Vec<u8>> {
         ["dense"] => searches::past_pins(2, number),
         ["bits"] => searches::past_set_bits(2, 0, number),
         ["aligned"] => searches::past_set_bits(4, 2, number),
-        ["between"] => searches::past_areas(number),
+        ["between"] => searches::past_many_areas(number),
         ["areas", seed] => day::records_of_many_areas(seed.parse().ok()?, number),
         [seed] => day::records(seed.parse().ok()?, number),
         _ => return None,

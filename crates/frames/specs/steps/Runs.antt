@@ -25,7 +25,7 @@ pub record OrdinaryRun (base : Frame) (areas : List ℕ) (n at len from end : �
   pub held : (k : ℕ) → at ≤ k → k < from → inAreasAt base areas n k ≡ true
   pub clear : (k : ℕ) → from ≤ k → k < end → inAreasAt base areas n k ≡ false
 
--- a run lies after `at`, in the table, and goes on at least to the place after `at`
+-- a run lies from `at` on, in the table, and goes on at least to the place after `at`
 pub record Within (at len : ℕ) (r : Run) : Type 0 where
   pub low : at ≤ r .from .0
   pub ordered : r .from .0 ≤ r .end .0

@@ -24,18 +24,21 @@ Inv-loop marks base areas declared least len order left₀ i₀ next₀ left i n
 abbrev μ-loop : tie.MeasureT-loop
 μ-loop marks base areas declared least len order left₀ i₀ next₀ left i next = len - i
 
+returns : tie.Need-returns Inv-loop μ-loop
+returns c = sym (le-leb (c .before .before .before .args .least) _ (omega arith))
+
 in-order-requires : tie.Need-in-order-requires Inv-loop μ-loop
 in-order-requires c κs = tt
 
 loop-holds : tie.Need-loop-holds Inv-loop μ-loop
 loop-holds c =
-    let at = c .before .before .before .args in
+    let at = c .before .before .before .before .args in
     let p = isFreeOrdinary (at .marks .now) (at .base) (at .areas .now) (min (at .declared) mostAreas) in
     (omega arith, ap (λ (d : ℕ). leb (at .least) (howMany p 0 d)) (omega arith), c .in-order .ensures, omega arith, λ p h. absurd (omega arith))
 
-returns : tie.Need-returns Inv-loop μ-loop
-returns c =
-    let at = c .before .before .before .before .before .before .args in
+returns-2 : tie.Need-returns-2 Inv-loop μ-loop
+returns-2 c =
+    let at = c .before .before .before .before .before .before .before .args in
     let rest = howMany (isFreeOrdinary (at .marks .now) (at .base) (at .areas .now) (min (at .declared) mostAreas)) (c .before .before .loop .i) _ in
     sym (c .before .before .loop .inv .1 ∙ le-leb _ rest (omega arith))
 
@@ -54,9 +57,9 @@ loop-again c =
     let walked = c .before .next-run .ensures .1 _ (inv .2) (inv .3) (inv .4) in
     (walked .run .high, inv .1 ∙ run-left _ (walked .run) _ _ (c .less-free .ensures), inv .2, walked .next, walked .passed)
 
-returns-2 : tie.Need-returns-2 Inv-loop μ-loop
-returns-2 c =
-    let at = c .before .before .before .before .before .args in
+returns-3 : tie.Need-returns-3 Inv-loop μ-loop
+returns-3 c =
+    let at = c .before .before .before .before .before .before .args in
     let p = isFreeOrdinary (at .marks .now) (at .base) (at .areas .now) (min (at .declared) mostAreas) in
     let i = c .before .loop .i in
     let none : howMany p i (length (at .marks .now) - i) ≡ 0 = many-zero p i (length (at .marks .now) - i) (λ k a b. absurd (omega arith)) in
@@ -68,11 +71,12 @@ has-free-ordinary-spec =
     (tie.spec
     Inv-loop
     μ-loop
+    returns
     in-order-requires
     loop-holds
-    returns
+    returns-2
     next-run-requires
     less-free-requires
     loop-less
     loop-again
-    returns-2)
+    returns-3)
