@@ -17,9 +17,9 @@ use lib.Dec.{leb, ltb, eqb}
 use lib.ListN.{length}
 use borrow.Author.Tests.{lt-ltb, le-ltb, le-leb, lt-leb, ltb-false}
 use Rattle.search.specs.Choice.{if_then_else_}
-use Rattle.search.specs.Search.{lowestFrom, highestFrom}
+use Rattle.search.specs.Search.{highestFrom}
 use Rattle.search.proofs.Bools.{below-or-not, and-both, and-left-false, and-right-false, or-left, or-right}
-use Rattle.search.proofs.Ranges.{every-miss, every-cong}
+use Rattle.search.proofs.Ranges.{every-cong}
 use Rattle.search.proofs.Highest.{highest-greatest, greatest-unique}
 use Rattle.frames.specs.declared.Area.{Area}
 use Rattle.frames.specs.Units.{frame, place}
@@ -41,8 +41,8 @@ use Rattle.rules.proofs.Shapes.{memory-known}
 use Rattle.setup.specs.declared.amounts.Rounded.{Rounded}
 use Rattle.setup.specs.declared.place.Plan.{Plan}
 use Rattle.setup.specs.declared.place.Plan.the-variants.{Made, Not}
+use Rattle.setup.specs.steps.Held.{Scanned}
 use Rattle.setup.specs.steps.Plan.{roundedFor, AmountsFit, planTables, planned, planAfter}
-use Rattle.setup.proofs.Taken.{taken-low, taken-fails, taken-some, taken-none}
 
 -- ---- the amounts
 pub amounts-fit :
@@ -188,27 +188,21 @@ module _ (m : Record) (r : Request) (t : Tables) where
       pub plan-roomy : {p : Plan} → short ≡ false → p ≡ planAfter 7 m r (planTables (t .marks) []) → p ≡ planAfter 6 m r t
       plan-roomy h k = k ∙ place-alike m r (planTables (t .marks) []) t (λ q. refl) ∙ sym (planned-pass _ _ _ (sym lacks ∙ h))
 
--- ---- a scan of `count` frames from `first` on has found the lowest that is not free or in an area
-abbrev Scanned : Record → Tables → ℕ → ℕ → ℕ → Type 0
-Scanned m t first count taken =
-    taken ≡
-    m .memory .base .0 +
-    lowestFrom (λ q. not (isFreeOrdinary (t .marks) (m .memory .base) (m .areas) (m .memory .declared) q)) (first - m .memory .base .0) count
+-- ---- a look at `count` frames from `first` on
+abbrev pub ScannedIn : Record → Tables → ℕ → ℕ → ℕ → Type 0
+ScannedIn m t = Scanned (m .memory .base) (t .marks) (m .areas) (m .memory .declared)
 
-module _ (m : Record) (t : Tables) (first count k : ℕ) {taken : ℕ} (is : Scanned m t first count taken) (low : m .memory .base .0 ≤ first) where
-  abbrev scanned : Area
-  scanned = record { base = frame first; count = count; «order_per_bit» = k }
+module _ (m : Record) (t : Tables) (first count k : ℕ) {taken : ℕ} (is : ScannedIn m t first count taken) where
+  abbrev scannedAt : ℕ → Area
+  scannedAt f = record { base = frame f; count = count; «order_per_bit» = k }
 
-  abbrev freeAt : ℕ → Bool
-  freeAt = isFreeOrdinary (t .marks) (m .memory .base) (m .areas) (m .memory .declared)
-
-  scanned-free : first + count ≤ taken → isVacant m t scanned ≡ true
+  scanned-free : first + count ≤ taken → isVacant m t (scannedAt first) ≡ true
   unfolding isVacant freeOrdinary isFreeOrdinary
-  scanned-free h = taken-none freeAt (first - m .memory .base .0) count _ refl (omega (arith, is))
+  scanned-free h = is .vacant h
 
-  scanned-taken : taken < first + count → isVacant m t scanned ≡ false
+  scanned-taken : (f : ℕ) → m .memory .base .0 ≤ f → f ≤ first → taken < f + count → isVacant m t (scannedAt f) ≡ false
   unfolding isVacant freeOrdinary isFreeOrdinary
-  scanned-taken h = taken-some freeAt (first - m .memory .base .0) count _ refl (omega (arith, is))
+  scanned-taken f a b h = is .fails f a b h
 
 -- ---- the amounts as the code has them
 module _ (m : Record) (r : Request) {x : Rounded} (e : x ≡ roundedFor m r) where
@@ -260,7 +254,7 @@ module _ (m : Record) (r : Request) (t : Tables) {x : Rounded} (e : x ≡ rounde
               omega
               (arith, at, ltb-false (x .base) (startByte m) (or-left (ltb (x .base) (startByte m)) (ltb (endByte m) (x .base + x .size)) (sym tested ∙ h)))
 
-          module _ {taken : ℕ} (is : Scanned m t first (x .size / pageBytes) taken) where
+          module _ {taken : ℕ} (is : ScannedIn m t first (x .size / pageBytes) taken) where
             abbrev fixedArea : Area
             fixedArea = record { base = frame first; count = x .size / pageBytes; «order_per_bit» = r .«order_per_bit» }
 
@@ -273,14 +267,14 @@ module _ (m : Record) (r : Request) (t : Tables) {x : Rounded} (e : x ≡ rounde
 
             pub fixed-full : taken < first + x .size / pageBytes → Not 12 ≡ planAfter 7 m r t
             fixed-full l =
-                let v = sym (ap (isVacant m t) fixed-is) ∙ scanned-taken m t first (x .size / pageBytes) (r .«order_per_bit») is fixed-low l in
+                let v = sym (ap (isVacant m t) fixed-is) ∙ scanned-taken m t first (x .size / pageBytes) (r .«order_per_bit») is first fixed-low (le-refl first) l in
                 sym
                 (planned-pass _ _ _ inside ∙
                 planned-stop _ _ _ (and-both (isFixed m r) (not (isVacant m t (areaFor m r t))) f (ap not v)))
 
             pub fixed-there : first + x .size / pageBytes ≤ taken → Made fixedArea ≡ planAfter 7 m r t
             fixed-there l =
-                let v = sym (ap (isVacant m t) fixed-is) ∙ scanned-free m t first (x .size / pageBytes) (r .«order_per_bit») is fixed-low l in
+                let v = sym (ap (isVacant m t) fixed-is) ∙ scanned-free m t first (x .size / pageBytes) (r .«order_per_bit») is l in
                 ap Made fixed-is ∙
                 sym
                 (planned-pass _ _ _ inside ∙
@@ -352,24 +346,22 @@ module _ (m : Record) (r : Request) (t : Tables) {x : Rounded} (e : x ≡ rounde
       abbrev count : ℕ
       count = x .size / pageBytes
 
+      pub tried-below : first + count ≤ high / pageBytes
+      tried-below = omega (arith, k .ends, fit .size-pages, size-is m r e)
+
       pub tried-inside : first + count ≤ mostEnd
-      tried-inside = omega (arith, s .below, k .ends, fit .size-pages, fit .limit-high, size-is m r e)
+      tried-inside = omega (arith, s .below, fit .limit-high, tried-below)
 
       below-last : at < firstMultiple m r + multiples m r
       below-last =
           let h : at ≤ limitFor m r / alignmentFor m r = le-div-iff-mul-le (fit .some) .1 (omega (arith, s .below, k .bytes, k .ends)) in
           omega arith
 
-      module _ {taken : ℕ} (is : Scanned m t first count taken) where
-        -- a frame that is taken: nothing that reaches over it fits
+      module _ {taken : ℕ} (is : ScannedIn m t first count taken) where
+        -- nothing that ends above `taken` fits
         pub tried-on : taken < first + count → Searching m r t (taken * pageBytes)
-        unfolding fitsAt isVacant freeOrdinary isFreeOrdinary
+        unfolding fitsAt
         tried-on h =
-            let base = m .memory .base .0 in
-            let free = isFreeOrdinary (t .marks) (m .memory .base) (m .areas) (m .memory .declared) in
-            let q = lowestFrom (λ q. not (free q)) (first - base) count in
-            let from = taken-low free (first - base) count q refl in
-            let below : q < first - base + count = omega (arith, is, k .in-memory) in
             let size = size-is m r e in
             record {
               below = omega (arith, s .below, k .ends, fit .size-pages);
@@ -379,8 +371,10 @@ module _ (m : Record) (r : Request) (t : Tables) {x : Rounded} (e : x ≡ rounde
                   let wide : c * alignmentFor m r ≤ at * alignmentFor m r = mul-le-mul-right (alignmentFor m r) (k .next c u) in
                   let pages : c * alignmentFor m r ≡ c * alignmentFor m r / pageBytes * pageBytes = whole c (alignmentFor m r) (fit .alignment-pages) in
                   let start : leastFor m r ≤ c * alignmentFor m r = le-ceiling (leastFor m r) (alignmentFor m r) c (fit .some) a in
+                  let f = c * alignmentFor m r / pageBytes in
                   and-right-false (leb (c * alignmentFor m r + sizeFor m r) (limitFor m r)) _
-                  (every-miss free (c * alignmentFor m r / pageBytes - base) (sizeFor m r / pageBytes) q (omega (arith, k .bytes)) (omega (arith, is, fit .size-pages)) (taken-fails free (first - base) count q refl below)));
+                  (subst (λ (y : ℕ). isVacant m t (record { base = frame f; count = y / pageBytes; «order_per_bit» = r .«order_per_bit» }) ≡ false) size
+                  (scanned-taken m t first count (r .«order_per_bit») is f (omega arith) (omega (arith, k .bytes)) (omega (arith, fit .size-pages)))));
             }
 
         -- it goes down
@@ -401,7 +395,7 @@ module _ (m : Record) (r : Request) (t : Tables) {x : Rounded} (e : x ≡ rounde
         fits-there h =
             and-both (leb (at * alignmentFor m r + sizeFor m r) (limitFor m r)) (isVacant m t (areaFrom m r (at * alignmentFor m r)))
             (le-leb (at * alignmentFor m r + sizeFor m r) (limitFor m r) (omega (arith, s .below, k .bytes, k .ends)))
-            (sym (ap (isVacant m t) there-is) ∙ scanned-free m t first count (r .«order_per_bit») is (k .in-memory) h)
+            (sym (ap (isVacant m t) there-is) ∙ scanned-free m t first count (r .«order_per_bit») is h)
 
         found-there : first + count ≤ taken → highestFit m r t ≡ at
         unfolding highestFit

@@ -1,21 +1,19 @@
--- The lowest place of a range that is in an area, that is not free, or either. Assumes nothing.
---     found-at, found-none          a place that is the lowest, and a range that has none, as a loop's return gives them
---     lowest-from                   what a search finds is in its range
---     lowest-either                 the lowest that passes one of two tests: what the second finds below the first's
---     taken-..                      what the lowest number that fails a test says of the range
---     held-..                       what an area's ends say of the lowest place that it holds
---     InAreas                       a loop that has looked at the first k areas; areas-start, areas-next
---     taken-is                      not free, or in an area; taken-frame: the same, by frames
-use Prim.Native.Nat.{ℕ, _+_, _-_, _≤_, _<_, min}
+-- The last frames before an end that an area holds, and a range of frames that are free and in no area. Assumes nothing.
+--     held-start, held-stays, held-moves, held-end    a loop that has looked at the first k areas: what the next area's ends say
+--     held-lower                                      the same before a lower end
+--     used-past                                       a mark past the end is free
+--     since-start, since-next                         a loop down over places that are not free
+--     scan-held, scan-free, scan-used                 a range that reaches into those frames; one that lies after them
+use Prim.Native.Nat.{ℕ, _+_, _-_, _≤_, _<_, min, max}
 use native.Mathlib.Nat.{le-refl, zero-add}
 use native.Mathlib.Omega.{arith}
-use mathlib.Core.Path.{_≡_, refl, sym, ap, subst, _∙_}
-use mathlib.Core.Bool.{Bool, true, false, not, _&&_, _||_}
+use mathlib.Core.Path.{_≡_, sym, ap, subst, _∙_}
+use mathlib.Core.Bool.{Bool, true, false, not, _||_}
 use mathlib.Core.List.{List}
 use lib.ListN.{length}
 use Rattle.search.specs.Search.{lowestFrom, some, every}
-use Rattle.search.proofs.Bools.{below-or-not, or-true-right, or-neither, not-flips}
-use Rattle.search.proofs.Lowest.{Least, lowest-least, lowest-is}
+use Rattle.search.proofs.Bools.{below-or-not, and-both, and-left-false, and-right-false, or-neither, or-left-true, or-right-true, not-flips}
+use Rattle.search.proofs.Lowest.{Least, lowest-least}
 use Rattle.search.proofs.Ranges.{some-none, some-next, every-miss, all-every}
 use Rattle.frames.specs.declared.Area.{Area}
 use Rattle.frames.specs.declared.Frame.{Frame}
@@ -25,80 +23,8 @@ use Rattle.frames.specs.Scans.{marked, inAreasAt, isFreeOrdinary}
 use Rattle.frames.specs.Areas.{holdsFrame, endOf, areaIn, inAreas}
 use Rattle.frames.proofs.AreaFacts.{holds-yes, holds-below, holds-above}
 use Rattle.frames.proofs.MarkFacts.{past-end}
-
-module _ (p : ℕ → Bool) (i n : ℕ) where
-  pub found-at : (r : ℕ) → i ≤ r → r ≤ n → p r ≡ true → ((k : ℕ) → i ≤ k → k < r → p k ≡ false) → r ≡ lowestFrom p i (n - i)
-  found-at r a b e none = sym (lowest-is p i (n - i) r (record { low = a; high = omega arith; hit = λ _. e; miss = none }))
-
-  pub found-none : i ≤ n → ((k : ℕ) → i ≤ k → k < n → p k ≡ false) → n ≡ lowestFrom p i (n - i)
-  found-none a none = sym (lowest-is p i (n - i) n (record { low = a; high = omega arith; hit = λ h. absurd (omega arith); miss = none }))
-
-pub lowest-from : (p : ℕ → Bool) (i d r : ℕ) → r ≡ lowestFrom p i d → i ≤ r
-lowest-from p i d r e = omega (arith, e, lowest-least p i d .low)
-
--- ---- either of two tests
-module _ (p q e : ℕ → Bool) (either : (k : ℕ) → e k ≡ (p k || q k)) (i d : ℕ) where
-  least-either : (j r : ℕ) → Least p i d j → Least q i (j - i) r → Least e i d r
-  least-either j r l h =
-      let low = l .low in
-      let high = h .high in
-      record {
-        low = h .low;
-        high = omega (arith, l .high);
-        hit = λ b.
-            below-or-not r j (λ w. either r ∙ ap (λ (x : Bool). p r || x) (h .hit (omega arith)) ∙ or-true-right (p r))
-            (λ w.
-            let same : j ≡ r = omega arith in
-            either r ∙ ap (λ (x : Bool). x || q r) (subst (λ (x : ℕ). p x ≡ true) same (l .hit (omega arith))));
-        miss = λ k a b. either k ∙ or-neither (p k) (q k) (l .miss k a (omega arith)) (h .miss k a b);
-      }
-
-  pub lowest-either : (j : ℕ) → j ≡ lowestFrom p i d → lowestFrom q i (j - i) ≡ lowestFrom e i d
-  lowest-either j same =
-      let r = lowestFrom q i (j - i) in
-      sym (lowest-is e i d r (least-either j r (subst (Least p i d) (sym same) (lowest-least p i d)) (lowest-least q i (j - i))))
-
--- ---- a search for the lowest of d numbers that fails a test, from `from` on
-module _ (p : ℕ → Bool) (from d j : ℕ) (is : j ≡ lowestFrom (λ q. not (p q)) from d) where
-  least : Least (λ q. not (p q)) from d j
-  least = subst (Least (λ q. not (p q)) from d) (sym is) (lowest-least (λ q. not (p q)) from d)
-
-  pub taken-low : from ≤ j
-  taken-low = least .low
-
-  pub taken-fails : j < from + d → p j ≡ false
-  taken-fails h = not-flips (p j) (least .hit (omega arith))
-
-  pub taken-some : j < from + d → every p from d ≡ false
-  taken-some h = every-miss p from d j taken-low h (taken-fails h)
-
-  pub taken-none : from + d ≤ j → every p from d ≡ true
-  taken-none h = all-every p from d (λ k a b. not-flips (p k) (least .miss k a (omega arith)))
-
--- ---- one area, in a table that begins at frame `base`
-module _ (a : Area) (base from end : ℕ) where
-  abbrev held : ℕ → Bool
-  held q = holdsFrame a (frame (base + q))
-
-  pub held-first : from ≤ end → a .base .0 ≤ base + from → base + from < endOf a → from ≡ lowestFrom held from (end - from)
-  held-first h low high = found-at held from end from (le-refl from) h (holds-yes a (base + from) low high) (λ k u v. absurd (omega arith))
-
-  pub held-before : from ≤ end → endOf a ≤ base + from → end ≡ lowestFrom held from (end - from)
-  held-before h high = found-none held from end h (λ k u v. holds-above a (base + k) (omega arith))
-
-  pub held-empty : from ≤ end → a .count ≡ 0 → end ≡ lowestFrom held from (end - from)
-  held-empty h none =
-      found-none held from end h
-      (λ k u v. below-or-not (base + k) (a .base .0) (λ w. holds-below a (base + k) w) (λ w. holds-above a (base + k) (omega arith)))
-
-  pub held-after : from ≤ end → base + end ≤ a .base .0 → end ≡ lowestFrom held from (end - from)
-  held-after h low = found-none held from end h (λ k u v. holds-below a (base + k) (omega arith))
-
-  pub held-later :
-      base + from < a .base .0 → a .base .0 < base + end → 0 < a .count → a .base .0 - base ≡ lowestFrom held from (end - from)
-  held-later low high some =
-      found-at held from end (a .base .0 - base) (omega arith) (omega arith) (holds-yes a (base + (a .base .0 - base)) (omega arith) (omega arith))
-      (λ k u v. holds-below a (base + k) (omega arith))
+use Rattle.setup.specs.declared.place.Held.{Held}
+use Rattle.setup.specs.steps.Held.{HeldBelow, LastHeld, UsedSince, Scanned}
 
 -- ---- the first n areas of a list
 module _ (areas : List ℕ) (f : Frame) where
@@ -112,80 +38,126 @@ module _ (areas : List ℕ) (f : Frame) where
       some-next (λ i. holdsFrame (areaIn areas i) f) 0 n ∙
       ap (λ (x : ℕ). some (λ i. holdsFrame (areaIn areas i) f) 0 n || holdsFrame (areaIn areas x) f) (zero-add n)
 
--- a loop that has looked at the first k areas, and found the lowest place in them
-pub record InAreas (base : ℕ) (areas : List ℕ) (from end k lowest : ℕ) : Type 0 where
-  pub low : from ≤ lowest
-  pub high : lowest ≤ end
-  pub is : lowest ≡ lowestFrom (inAreasAt (frame base) areas k) from (end - from)
+-- ---- a loop that has looked at the first k areas, and found the last frames before `end` that they hold
+pub held-start : {areas : List ℕ} {end : ℕ} → LastHeld areas 0 end (record { from = frame 0; end = frame 0 })
+held-start {areas} =
+    record {
+      within = omega arith;
+      below = record { some = λ h. absurd (omega arith); held = λ f u v. absurd (omega arith); clear = λ f u v. in-none areas (frame f) };
+    }
 
-module _ {base : ℕ} {areas : List ℕ} {from end : ℕ} where
-  pub areas-start : from ≤ end → InAreas base areas from end 0 end
-  areas-start h =
+pub held-end : {areas : List ℕ} {k n end : ℕ} {h : Held} → LastHeld areas k end h → k ≡ n → LastHeld areas n end h
+held-end {areas} {k} {n} {end} {h} s same = subst (λ (x : ℕ). LastHeld areas x end h) same s
+
+pub held-lower : {areas : List ℕ} {n end : ℕ} {h : Held} (lower : ℕ) → HeldBelow areas n end h → lower ≤ end → HeldBelow areas n lower h
+held-lower lower b l = record { some = b .some; held = b .held; clear = λ f u v. b .clear f u (omega arith) }
+
+module _ {areas : List ℕ} {k end : ℕ} {a : Area} (same : a ≡ areaIn areas k) {h : Held} (s : LastHeld areas k end h) (past : ℕ) (is : past ≡ min (endOf a) end) where
+  joined : (f : ℕ) → inAreas areas (k + 1) (frame f) ≡ (inAreas areas k (frame f) || holdsFrame a (frame f))
+  joined f = in-next areas (frame f) k ∙ ap (λ (x : Area). inAreas areas k (frame f) || holdsFrame x (frame f)) (sym same)
+
+  -- after those frames the area has none
+  pub held-stays : past ≤ max (a .base .0) (h .end .0) → LastHeld areas (k + 1) end h
+  held-stays l =
       record {
-        low = h;
-        high = le-refl end;
-        is = found-none (inAreasAt (frame base) areas 0) from end h (λ k u v. in-none areas (frame (base + k)));
+        within = s .within;
+        below = record {
+          some = s .below .some;
+          held = λ f u v. joined f ∙ or-left-true (inAreas areas k (frame f)) (holdsFrame a (frame f)) (s .below .held f u v);
+          clear = λ f u v.
+              joined f ∙
+              or-neither (inAreas areas k (frame f)) (holdsFrame a (frame f)) (s .below .clear f u v)
+              (below-or-not f (a .base .0) (λ w. holds-below a f w) (λ w. holds-above a f (omega arith)));
+        };
       }
 
-  pub areas-next :
-      {k j : ℕ} {a : Area} (r : ℕ) →
-      InAreas base areas from end k j →
-      a ≡ areaIn areas k → r ≡ lowestFrom (λ q. holdsFrame a (frame (base + q))) from (j - from) → InAreas base areas from end (k + 1) r
-  areas-next {k} {j} r s same found =
-      let e : r ≡ lowestFrom (λ q. holdsFrame (areaIn areas k) (frame (base + q))) from (j - from) =
-      found ∙ ap (λ (x : Area). lowestFrom (λ q. holdsFrame x (frame (base + q))) from (j - from)) same
-      in
-      let l = lowest-least (λ q. holdsFrame (areaIn areas k) (frame (base + q))) from (j - from) in
-      let low = s .low in
-      let high = s .high in
+  pub held-moves : a .base .0 < past → h .end .0 < past → LastHeld areas (k + 1) end (record { from = a .base; end = frame past })
+  held-moves l more =
       record {
-        low = omega (arith, l .low);
-        high = omega (arith, l .high);
-        is =
-            e ∙
-            lowest-either (inAreasAt (frame base) areas k) (λ q. holdsFrame (areaIn areas k) (frame (base + q))) (inAreasAt (frame base) areas (k + 1))
-            (λ q. in-next areas (frame (base + q)) k) from (end - from) j (s .is);
+        within = omega arith;
+        below = record {
+          some = λ _. l;
+          held = λ f u v. joined f ∙ or-right-true (inAreas areas k (frame f)) (holdsFrame a (frame f)) (holds-yes a f u (omega arith));
+          clear = λ f u v.
+              joined f ∙
+              or-neither (inAreas areas k (frame f)) (holdsFrame a (frame f)) (s .below .clear f (omega arith) v) (holds-above a f (omega arith));
+        };
       }
 
-  pub areas-end : {k j n : ℕ} → InAreas base areas from end k j → k ≡ n → j ≡ lowestFrom (inAreasAt (frame base) areas n) from (end - from)
-  areas-end s same = s .is ∙ ap (λ (x : ℕ). lowestFrom (inAreasAt (frame base) areas x) from (end - from)) same
+-- ---- a range of frames
+pub used-past : (marks : List ℕ) (k : ℕ) → length marks ≤ k → not (marked (hasKind free) marks k) ≡ false
+used-past marks k h = ap not (past-end (hasKind free) marks k h)
 
--- ---- marks
-not-and-not : (a b : Bool) → not (a && not b) ≡ (b || not a)
-not-and-not true true = refl
-not-and-not true false = refl
-not-and-not false true = refl
-not-and-not false false = refl
+-- a loop that has gone down from `at` to i
+pub since-start : {marks : List ℕ} {at : ℕ} → UsedSince marks at at
+since-start {marks} {at} = record { low = le-refl at; used = λ q u v. absurd (omega arith) }
 
-module _ (marks : List ℕ) where
-  pub used-past : (k : ℕ) → length marks ≤ k → not (marked (hasKind free) marks k) ≡ false
-  used-past k h = ap not (past-end (hasKind free) marks k h)
+pub since-next : {marks : List ℕ} {at i : ℕ} → UsedSince marks at i → 0 < i → marked (hasKind free) marks (i - 1) ≡ false → UsedSince marks at (i - 1)
+since-next {marks} {at} {i} s some e =
+    record {
+      low = omega (arith, s .low);
+      used = λ q u v. below-or-not q i (λ w. let same : i - 1 ≡ q = omega arith in subst (λ (x : ℕ). marked (hasKind free) marks x ≡ false) same e) (λ w. s .used q w v);
+    }
 
-  pub taken-is :
-      (base : Frame) (areas : List ℕ) (n from end j r : ℕ) →
-      j ≡ lowestFrom (inAreasAt base areas n) from (end - from) →
-      r ≡ lowestFrom (λ q. not (marked (hasKind free) marks q)) from (j - from) →
-      r ≡ lowestFrom (λ q. not (isFreeOrdinary marks base areas n q)) from (end - from)
+-- a range that begins no higher than a used place, and ends above the first of those in a row with it, has one of them
+over-used :
+    (base : Frame) (marks areas : List ℕ) (n first count : ℕ) {used since : ℕ} → first ≤ base .0 + used → base .0 + used < first + count → UsedSince marks used since
+    → marked (hasKind free) marks used ≡ false → (f : ℕ) → base .0 ≤ f → f ≤ first → base .0 + since < f + count → every (isFreeOrdinary marks base areas n) (f - base .0) count ≡ false
+unfolding isFreeOrdinary
+over-used base marks areas n first count {used} {since} begins ends run here f a b v =
+    let taken : (q : ℕ) → marked (hasKind free) marks q ≡ false → isFreeOrdinary marks base areas n q ≡ false =
+    λ q e. and-left-false (marked (hasKind free) marks q) (not (inAreasAt base areas n q)) e
+    in
+    let vacant = isFreeOrdinary marks base areas n in
+    below-or-not (base .0 + used) (f + count) (λ w. every-miss vacant (f - base .0) count used (omega arith) (omega arith) (taken used here))
+    (λ w.
+    let q = f + count - 1 - base .0 in
+    every-miss vacant (f - base .0) count q (omega arith) (omega arith) (taken q (run .used q (omega arith) (omega arith))))
+
+module _ (base : Frame) (marks areas : List ℕ) (n first count : ℕ) {h : Held} (low : base .0 ≤ first) (s : LastHeld areas n (first + count) h) where
+  abbrev vacantAt : ℕ → Bool
+  vacantAt = isFreeOrdinary marks base areas n
+
+  -- it reaches into the frames that an area holds: a range that begins no higher and ends above the first of them has one of them
+  pub scan-held : first < h .end .0 → Scanned base marks areas n first count (h .from .0)
   unfolding isFreeOrdinary
-  taken-is base areas n from end j r same e =
-      e ∙
-      lowest-either (inAreasAt base areas n) (λ q. not (marked (hasKind free) marks q)) (λ q. not (isFreeOrdinary marks base areas n q))
-      (λ k. not-and-not (marked (hasKind free) marks k) (inAreasAt base areas n k)) from (end - from) j same
+  scan-held l =
+      let some = s .below .some (omega arith) in
+      let within = s .within in
+      record {
+        vacant = λ v. absurd (omega arith);
+        fails = λ f a b v.
+            let e = min (f + count) (h .end .0) - 1 in
+            let here : e ≡ base .0 + (e - base .0) = omega arith in
+            every-miss vacantAt (f - base .0) count (e - base .0) (omega arith) (omega arith)
+            (and-right-false (marked (hasKind free) marks (e - base .0)) _
+            (ap not (subst (λ (x : ℕ). inAreas areas n (frame x) ≡ true) here (s .below .held e (omega arith) (omega arith)))));
+      }
 
-  pub taken-frame :
-      (base : Frame) (areas : List ℕ) (n first count from end j r : ℕ) →
-      base .0 ≤ first →
-      first + count ≤ mostNumber →
-      from ≡ first - base .0 →
-      end ≡ first + count - base .0 →
-      j ≡ lowestFrom (inAreasAt base areas n) from (end - from) →
-      r ≡ lowestFrom (λ q. not (marked (hasKind free) marks q)) from (j - from) →
-      min (base .0 + r) mostNumber ≡ base .0 + lowestFrom (λ q. not (isFreeOrdinary marks base areas n q)) (first - base .0) count
-  taken-frame base areas n first count from end j r low high at past same e =
-      let p : ℕ → Bool = λ q. not (isFreeOrdinary marks base areas n q) in
-      let width : end - from ≡ count = omega arith in
-      let is : r ≡ lowestFrom p (first - base .0) count =
-      taken-is base areas n from end j r same e ∙ ap (λ (q : ℕ). lowestFrom p from q) width ∙ ap (λ (q : ℕ). lowestFrom p q count) at
-      in
-      let most = lowest-least p (first - base .0) count .high in
-      omega arith
+  -- it lies after them: the marks say
+  module _ (after : h .end .0 ≤ first) {from end used : ℕ} (at : from ≡ first - base .0) (past : end ≡ first + count - base .0) (is : used ≡ lowestFrom (λ q. not (marked (hasKind free) marks q)) from (end - from)) where
+    least : Least (λ q. not (marked (hasKind free) marks q)) from (end - from) used
+    least = subst (Least (λ q. not (marked (hasKind free) marks q)) from (end - from)) (sym is) (lowest-least (λ q. not (marked (hasKind free) marks q)) from (end - from))
+
+    pub scan-free : end ≤ used → Scanned base marks areas n first count (first + count)
+    unfolding isFreeOrdinary
+    scan-free l =
+        record {
+          vacant = λ v.
+              all-every vacantAt (first - base .0) count
+              (λ q u w.
+              and-both (marked (hasKind free) marks q) (not (inAreasAt base areas n q)) (not-flips (marked (hasKind free) marks q) (least .miss q (omega arith) (omega arith)))
+              (ap not (s .below .clear (base .0 + q) (omega arith) (omega arith))));
+          fails = λ f a b v. absurd (omega arith);
+        }
+
+    pub scan-used : {since taken : ℕ} → used < end → first + count ≤ mostNumber → UsedSince marks used since → taken ≡ min (base .0 + since) mostNumber → Scanned base marks areas n first count taken
+    scan-used {since} {taken} l most run e =
+        let begins : first ≤ base .0 + used = omega (arith, least .low) in
+        let ends : base .0 + used < first + count = omega arith in
+        let same : taken ≡ base .0 + since = omega (arith, run .low) in
+        let here : marked (hasKind free) marks used ≡ false = not-flips (marked (hasKind free) marks used) (least .hit (omega arith)) in
+        record {
+          vacant = λ v. absurd (omega (arith, run .low));
+          fails = λ f a b v. over-used base marks areas n first count begins ends run here f a b (omega arith);
+        }

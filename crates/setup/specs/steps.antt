@@ -1,2 +1,3 @@
 pub mod Boot
+pub mod Held
 pub mod Plan

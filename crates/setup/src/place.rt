@@ -3,16 +3,17 @@
 ghost use mathlib.Core.Path.{_≡_};
 ghost use mathlib.Core.Bool.{true, false, not, _||_};
 ghost use mathlib.Core.List.{[]};
-ghost use Prim.Native.Nat.{_+_, _-_, _≤_};
+ghost use Prim.Native.Nat.{_+_, _-_, _≤_, min};
 ghost use lib.Dec.{ltb};
 ghost use Rattle.search.specs.Search.{lowestFrom};
-ghost use Rattle.frames.specs.Units.{frame, mostNumber};
+ghost use Rattle.frames.specs.Units.{mostNumber};
 ghost use Rattle.frames.specs.Marks.{hasKind, free};
-ghost use Rattle.frames.specs.Scans.{marked, inAreasAt, isFreeOrdinary};
-ghost use Rattle.frames.specs.Areas.{holdsFrame};
+ghost use Rattle.frames.specs.Scans.{marked};
+ghost use Rattle.frames.specs.Areas.{endOf};
 ghost use Rattle.rules.specs.Does.{recordWith, given};
 ghost use Rattle.rules.specs.Shape.{memoryRight};
 ghost use Rattle.rules.specs.Declare.{badRequest, isFixed};
+ghost use Rattle.setup.specs.steps.Held.{HeldBelow, LastHeld, HeldLater, UsedSince, Scans};
 ghost use Rattle.setup.specs.steps.Plan.{Rounds, AmountsFit, planTables, planAfter};
 use crate::amounts::Rounded;
 use crate::amounts::lowest_end;
@@ -36,42 +37,67 @@ pub enum Plan {
     Not(u64),
 }
 
-// The lowest place from `from` up to `end` that the area holds, in a table that begins at frame `base`; `end` where it holds none.
-fn first_held(area: Area, base: Frame, from: Place, end: Place) -> Place
-    requires { ⌜ (from .0 ≤ end .0) × (base .0 + end .0 ≤ mostNumber) ⌝ }
-    ensures { λ r. ⌜ r .0 ≡ lowestFrom (λ q. holdsFrame area (frame (base .0 + q))) (from .0) (end .0 - from .0) ⌝ }
-{
-    let first = frame_at(base, from);
-    if area.base.0 <= first.0 {
-        if first.0 - area.base.0 < area.count {
-            return from;
-        }
-        return end;
-    }
-    if area.count == 0 {
-        return end;
-    }
-    let past = frame_at(base, end);
-    if past.0 <= area.base.0 {
-        return end;
-    }
-    place_of(base, area.base)
+// Frames in a row that an area holds: the first, and the one after the last.
+struct Held {
+    from: Frame,
+    end: Frame,
 }
 
-// The lowest place of the range that is in an area; `end` where none is.
-fn first_in_areas(base: Frame, areas: &[u64], declared: u64, from: Place, end: Place) -> Place
-    requires { ⌜ (from .0 ≤ end .0) × (base .0 + end .0 ≤ mostNumber) ⌝ }
-    ensures { λ r. ⌜ r .0 ≡ lowestFrom (inAreasAt base (now (areas .entry)) declared) (from .0) (end .0 - from .0) ⌝ }
+// The frame after the area's last; `end` where that comes first.
+fn end_before(area: Area, end: Frame) -> Frame
+    ensures { λ r. ⌜ r .0 ≡ min (endOf area) (end .0) ⌝ }
+{
+    if end.0 <= area.base.0 {
+        return end;
+    }
+    if end.0 - area.base.0 <= area.count {
+        return end;
+    }
+    Frame(area.base.0 + area.count)
+}
+
+// What the area holds before `end`, or what others do, as `held` has it: whichever ends later.
+fn later_held(area: Area, held: Held, end: Frame) -> Held
+    ensures { λ r. ⌜ HeldLater area (end .0) held r ⌝ }
+{
+    let past = end_before(area, end);
+    if past.0 <= area.base.0 {
+        return held;
+    }
+    if past.0 <= held.end.0 {
+        return held;
+    }
+    let from = area.base;
+    Held { from, end: past }
+}
+
+// The last frames before `end` that an area holds; none, at frame 0, where no area holds one.
+fn last_held(areas: &[u64], declared: u64, end: Frame) -> Held
+    ensures { λ r. ⌜ LastHeld (now (areas .entry)) declared (end .0) r ⌝ }
 {
     let last = declared as usize;
-    let mut lowest = end;
+    let mut held = Held {
+        from: Frame(0),
+        end: Frame(0),
+    };
     let mut k = 0;
     while k < last {
         let area = area_at(areas, k);
-        lowest = first_held(area, base, from, lowest);
+        held = later_held(area, held, end);
         k += 1;
     }
-    lowest
+    held
+}
+
+// The same, where `held` was the last before a later end: the areas are asked again only where it passes this one.
+fn held_before(areas: &[u64], declared: u64, held: Held, end: Frame) -> Held
+    requires { ⌜ HeldBelow (now areas) declared (end .0) held ⌝ }
+    ensures { λ r. ⌜ LastHeld (now (areas .entry)) declared (end .0) r ⌝ }
+{
+    if held.end.0 <= end.0 {
+        return held;
+    }
+    last_held(areas, declared, end)
 }
 
 // The lowest place of the range that is not free; `end` where all are.
@@ -94,17 +120,41 @@ fn first_used(marks: &[u32], from: Place, end: Place) -> Place
     end
 }
 
-// The lowest frame of a range of memory that is not free or is in an area; the frame after the range where there is none.
-fn first_taken(memory: Memory, areas: &[u64], marks: &[u32], first: Frame, count: u64) -> Frame
-    requires { ⌜ (memory .base .0 ≤ first .0) × (first .0 + count ≤ mostNumber) ⌝ }
-    ensures { λ r. ⌜ r .0 ≡ memory .base .0 + lowestFrom (λ q. not (isFreeOrdinary (now (marks .entry)) (memory .base) (now (areas .entry)) (memory .declared) q)) (first .0 - memory .base .0) count ⌝ }
+// The first of the places in a row just before `at` that are not free; `at` where the one before it is free.
+fn used_since(marks: &[u32], at: Place) -> Place
+    ensures { λ r. ⌜ UsedSince (now (marks .entry)) (at .0) (r .0) ⌝ }
 {
-    let base = memory.base;
+    if marks.len() <= at.0 {
+        return at;
+    }
+    let mut i = at.0;
+    while 0 < i {
+        if marks[i - 1] % 8 == FREE {
+            return Place(i);
+        }
+        i -= 1;
+    }
+    Place(i)
+}
+
+// Where what is taken in a range of memory begins: the first of some frames in a row, each not free or in an area, that the range has one of;
+// the frame after the range where it has none. `held` is the last that an area holds before the range's end: after it every frame is ordinary,
+// and the marks alone say.
+fn first_taken(base: Frame, marks: &[u32], held: Held, first: Frame, count: u64) -> Frame
+    requires { ⌜ (base .0 ≤ first .0) × (first .0 + count ≤ mostNumber) ⌝ }
+    ensures { λ r. ⌜ Scans base (now (marks .entry)) held (first .0) count (r .0) ⌝ }
+{
+    if first.0 < held.end.0 {
+        return held.from;
+    }
     let from = place_of(base, first);
     let end = place_of(base, Frame(first.0 + count));
-    let ordinary = first_in_areas(base, areas, memory.declared, from, end);
-    let taken = first_used(marks, from, ordinary);
-    frame_at(base, taken)
+    let used = first_used(marks, from, end);
+    if end.0 <= used.0 {
+        return Frame(first.0 + count);
+    }
+    let since = used_since(marks, used);
+    frame_at(base, since)
 }
 
 // A range at the base is outside memory, whose bytes are from `start` up to `end`.
@@ -139,7 +189,8 @@ pub(crate) fn plan_fixed(
     }
     let base = frame_of_byte(rounded.base);
     let count = rounded.size / Record::PAGE_BYTES;
-    let taken = first_taken(memory, areas, marks, base, count);
+    let held = last_held(areas, memory.declared, Frame(base.0 + count));
+    let taken = first_taken(memory.base, marks, held, base, count);
     if taken.0 < base.0 + count {
         return Plan::Not(refusal::RANGE_NOT_FREE);
     }
@@ -151,7 +202,8 @@ pub(crate) fn plan_fixed(
 }
 
 // The highest place where the area can go. Where a range has a frame that is taken, so has every range over that frame: the next to try
-// is the highest that ends below it.
+// is the highest that ends below it, and below all the frames in a row that are taken with it. So the areas are asked once for each that is
+// passed, and not for each place.
 pub(crate) fn plan_highest(
     memory: Memory,
     areas: &[u64],
@@ -168,10 +220,12 @@ pub(crate) fn plan_highest(
     let lowest = lowest_end(rounded, memory.base);
     let count = rounded.size / Record::PAGE_BYTES;
     let mut high = rounded.limit;
+    let mut held = last_held(areas, memory.declared, frame_of_byte(high));
     while lowest <= high {
         let start = (high - rounded.size) / rounded.alignment * rounded.alignment;
         let base = frame_of_byte(start);
-        let taken = first_taken(memory, areas, marks, base, count);
+        held = held_before(areas, memory.declared, held, Frame(base.0 + count));
+        let taken = first_taken(memory.base, marks, held, base, count);
         if base.0 + count <= taken.0 {
             return Plan::Made(Area {
                 base,

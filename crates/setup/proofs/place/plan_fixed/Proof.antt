@@ -49,21 +49,27 @@ high c =
     let end = fixed-high (recordWith (x .memory) (x .areas .now)) (x .request) (planTables (x .marks .now) []) (c .before .before .before .before .before .before .before .before .pre .1 .1 .0 (x .areas .now)) (c .before .before .before .before .before .before .before .before .pre .1 .1 .1) (c .before .before .before .before .before .byte-of-frame .ensures) (c .before .before .before .byte-of-frame2 .ensures) (c .before .before .is-outside .ensures) (c .before .if1 .left) in
     omega (arith, first c, memory-known _ _ _ (c .before .before .before .before .before .before .before .before .pre .0) .end-high)
 
-first-taken-requires : tie.Need-first-taken-requires
-first-taken-requires c κs = (low (c .before), omega (arith, high (c .before)))
-
 add-if2-2 : tie.Need-add-if2-2
-add-if2-2 c = omega (arith, high (c .before .before .before))
+add-if2-2 c = omega (arith, high (c .before .before))
+
+last-held-requires : tie.Need-last-held-requires
+last-held-requires c κs = tt
+
+first-taken-requires : tie.Need-first-taken-requires
+first-taken-requires c κs = (low (c .before .before .before), omega (arith, high (c .before .before .before)))
+
+add-if2-3 : tie.Need-add-if2-3
+add-if2-3 c = omega (arith, high (c .before .before .before .before .before))
 
 returns-2 : tie.Need-returns-2
 returns-2 c =
-    let x = c .before .before .before .before .before .before .before .before .before .before .before .before .before .args in
-    fixed-full (recordWith (x .memory) (x .areas .now)) (x .request) (planTables (x .marks .now) []) (c .before .before .before .before .before .before .before .before .before .before .before .before .before .pre .1 .1 .0 (x .areas .now)) (c .before .before .before .before .before .before .before .before .before .before .before .before .before .pre .1 .1 .1) (c .before .before .before .before .before .before .before .before .before .before .byte-of-frame .ensures) (c .before .before .before .before .before .before .before .before .byte-of-frame2 .ensures) (c .before .before .before .before .before .before .before .is-outside .ensures) (c .before .before .before .before .before .before .if1 .left) (first (c .before .before .before .before .before)) (c .before .before .before .first-taken .ensures) (c .if2 .taken)
+    let x = c .before .before .before .before .before .before .before .before .before .before .before .before .before .before .before .args in
+    fixed-full (recordWith (x .memory) (x .areas .now)) (x .request) (planTables (x .marks .now) []) (c .before .before .before .before .before .before .before .before .before .before .before .before .before .before .before .pre .1 .1 .0 (x .areas .now)) (c .before .before .before .before .before .before .before .before .before .before .before .before .before .before .before .pre .1 .1 .1) (c .before .before .before .before .before .before .before .before .before .before .before .before .byte-of-frame .ensures) (c .before .before .before .before .before .before .before .before .before .before .byte-of-frame2 .ensures) (c .before .before .before .before .before .before .before .before .before .is-outside .ensures) (c .before .before .before .before .before .before .before .before .if1 .left) (first (c .before .before .before .before .before .before .before)) (c .before .before .before .first-taken .ensures _ _ (c .before .before .before .before .last-held .ensures)) (c .if2 .taken)
 
 returns-3 : tie.Need-returns-3
 returns-3 c =
-    let x = c .before .before .before .before .before .before .before .before .before .before .before .before .before .args in
-    fixed-there (recordWith (x .memory) (x .areas .now)) (x .request) (planTables (x .marks .now) []) (c .before .before .before .before .before .before .before .before .before .before .before .before .before .pre .1 .1 .0 (x .areas .now)) (c .before .before .before .before .before .before .before .before .before .before .before .before .before .pre .1 .1 .1) (c .before .before .before .before .before .before .before .before .before .before .byte-of-frame .ensures) (c .before .before .before .before .before .before .before .before .byte-of-frame2 .ensures) (c .before .before .before .before .before .before .before .is-outside .ensures) (c .before .before .before .before .before .before .if1 .left) (first (c .before .before .before .before .before)) (c .before .before .before .first-taken .ensures) (c .if2 .left)
+    let x = c .before .before .before .before .before .before .before .before .before .before .before .before .before .before .before .args in
+    fixed-there (recordWith (x .memory) (x .areas .now)) (x .request) (planTables (x .marks .now) []) (c .before .before .before .before .before .before .before .before .before .before .before .before .before .before .before .pre .1 .1 .0 (x .areas .now)) (c .before .before .before .before .before .before .before .before .before .before .before .before .before .before .before .pre .1 .1 .1) (c .before .before .before .before .before .before .before .before .before .before .before .before .byte-of-frame .ensures) (c .before .before .before .before .before .before .before .before .before .before .byte-of-frame2 .ensures) (c .before .before .before .before .before .before .before .before .before .is-outside .ensures) (c .before .before .before .before .before .before .before .before .if1 .left) (first (c .before .before .before .before .before .before .before)) (c .before .before .before .first-taken .ensures _ _ (c .before .before .before .before .last-held .ensures)) (c .if2 .left)
 
 pub plan-fixed-spec : {M : Type 1} → statement M
 plan-fixed-spec =
@@ -75,7 +81,9 @@ plan-fixed-spec =
     is-outside-requires
     returns
     frame-of-byte-requires
-    first-taken-requires
     add-if2-2
+    last-held-requires
+    first-taken-requires
+    add-if2-3
     returns-2
     returns-3)
