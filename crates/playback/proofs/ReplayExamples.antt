@@ -1,6 +1,6 @@
 -- Replay's output for the examples: the checker computes it. Assumes nothing.
 use mathlib.Core.Path.{refl}
-use Rattle.search.specs.Search.{lowestFrom, lowest, some, every, howMany}
+use Rattle.search.specs.Search.{lowestFrom, lowest, highestFrom, some, every, howMany}
 use Rattle.bitmap.specs.Bits.{isClear, changeBit, changeBits}
 use Rattle.frames.specs.Areas.{inAreas, firstWord}
 use Rattle.frames.specs.Tables.{fill}
@@ -10,7 +10,7 @@ use Rattle.rules.specs.Shape.{memoryRight, lengthsRight, areaRight, areaFits, s
 use Rattle.rules.specs.Outcomes.{checked}
 use Rattle.rules.specs.PageCalls.{pageAt, freeOrdinary, freeInArea, putAt, putPage, readPage}
 use Rattle.rules.specs.DeviceCalls.{isCandidate, isGrantable, chosen, movers, targets, movePage, moveOut, takeRun, grant}
-use Rattle.rules.specs.Declare.{alignmentFor, baseFor, sizeFor, limitFor, isVacant, declare}
+use Rattle.rules.specs.Declare.{alignmentFor, baseFor, sizeFor, limitFor, isVacant, fitsAt, highestFit, declare}
 use Rattle.rules.specs.Boot.{declareAll, bootRecord, boot}
 use Rattle.records.specs.Records.{little, bodies, bodyOf, sum, numbers, bodyLength, bodyAt, decodeAt}
 use Rattle.text.specs.Writing.{decimalUpTo, decimal, labelled}
@@ -20,5 +20,5 @@ use Rattle.playback.specs.Replay.{linesUpTo, linesOf, replayOutput}
 use Rattle.playback.specs.ReplayExamples.{Examples}
 
 pub examples-hold : Examples
-unfolding lowestFrom lowest some every howMany isClear changeBit changeBits inAreas firstWord fill isPowerOfTwo regionsFrom regions memoryRight lengthsRight areaRight areaFits shapeRight checked pageAt freeOrdinary freeInArea putAt putPage readPage isCandidate isGrantable chosen movers targets movePage moveOut takeRun grant alignmentFor baseFor sizeFor limitFor isVacant declare declareAll bootRecord boot little bodies bodyOf sum numbers bodyLength bodyAt decodeAt decimalUpTo decimal labelled heading lineOf framesFor answerTo linesUpTo linesOf replayOutput
-examples-hold = record { printed = refl; empty = refl; notBooted = refl; cut = refl; unknown = refl }
+unfolding lowestFrom lowest highestFrom some every howMany isClear changeBit changeBits inAreas firstWord fill isPowerOfTwo regionsFrom regions memoryRight lengthsRight areaRight areaFits shapeRight checked pageAt freeOrdinary freeInArea putAt putPage readPage isCandidate isGrantable chosen movers targets movePage moveOut takeRun grant alignmentFor baseFor sizeFor limitFor isVacant fitsAt highestFit declare declareAll bootRecord boot little bodies bodyOf sum numbers bodyLength bodyAt decodeAt decimalUpTo decimal labelled heading lineOf framesFor answerTo linesUpTo linesOf replayOutput
+examples-hold = record { printed = refl; empty = refl; notBooted = refl; cut = refl; unknown = refl; words96 = refl }

@@ -1,4 +1,5 @@
--- What replay must give for some inputs: document 01's printed output, an input with no record, and inputs that end badly.
+-- What replay must give for some inputs: document 01's printed output, an input with no record, inputs that end badly, and areas on both sides of
+-- the bitmap words that document 02, request (v), lends.
 use Prim.Native.Nat.{ℕ}
 use Prim.Native.Char.{code}
 use Prim.Native.String.{String}
@@ -38,6 +39,25 @@ read7 = 7 ∷ 7 ∷ 0 ∷ 0 ∷ 0 ∷ []
 abbrev pub bootTooLarge : List ℕ
 bootTooLarge = 0 ∷ 4 ∷ 0 ∷ 0 ∷ 0 ∷ 0 ∷ 0 ∷ 0 ∷ 0 ∷ 1 ∷ 8 ∷ 0 ∷ 0 ∷ 2 ∷ []
 
+-- a boot of one frame: P 1, n 1, b 0
+abbrev pub bootOne : List ℕ
+bootOne = 0 ∷ 1 ∷ 0 ∷ 0 ∷ 0 ∷ 0 ∷ 0 ∷ 0 ∷ 0 ∷ 1 ∷ 0 ∷ 0 ∷ 0 ∷ 0 ∷ []
+
+-- a declare at no fixed place of so many bytes, as the lowest four of its size: base 0, limit 0, alignment 0, k 0
+abbrev pub declareAny : ℕ → ℕ → ℕ → ℕ → List ℕ
+declareAny s₀ s₁ s₂ s₃ =
+    12 ∷ 0 ∷ 0 ∷ 0 ∷ 0 ∷ 0 ∷ 0 ∷ 0 ∷ 0 ∷
+    s₀ ∷ s₁ ∷ s₂ ∷ s₃ ∷ 0 ∷ 0 ∷ 0 ∷ 0 ∷
+    0 ∷ 0 ∷ 0 ∷ 0 ∷ 0 ∷ 0 ∷ 0 ∷ 0 ∷
+    0 ∷ 0 ∷ 0 ∷ 0 ∷ 0 ∷ 0 ∷ 0 ∷ 0 ∷ 0 ∷ 0 ∷ []
+
+-- of 6,144 frames, whose bits are 96 words, and of one frame more
+abbrev pub declare6144 : List ℕ
+declare6144 = declareAny 0 0 128 1
+
+abbrev pub declare6145 : List ℕ
+declare6145 = declareAny 0 16 128 1
+
 pub record Examples : Type 0 where
   -- the whole output that document 01 prints
   pub printed : replayOutput (bootA ++ declareA ++ grant3 ++ putMovable7 ++ read7)
@@ -50,3 +70,5 @@ pub record Examples : Type 0 where
   pub cut : replayOutput (bootA ++ putMovable7 ++ (7 ∷ 7 ∷ 0 ∷ 0 ∷ [])) ≡ ascii "step refusal first second\n0 0 0 0\n1 0 4 0\nbad 19\n"
   -- a kind that is none, and a record after it
   pub unknown : replayOutput (bootA ++ (13 ∷ read7)) ≡ ascii "step refusal first second\n0 0 0 0\nbad 14\n"
+  -- the program lends 96 bitmap words: an area that needs as many is refused as it has no place, and one that needs a word more for want of words
+  pub words96 : replayOutput (bootOne ++ declare6144 ++ declare6145) ≡ ascii "step refusal first second\n0 0 0 0\n1 13 0 0\n2 14 0 0\nend 3\n"

@@ -1,4 +1,5 @@
 pub mod Judging
 pub mod Listing
 pub mod Naming
+pub mod Promises
 pub mod Refusals
