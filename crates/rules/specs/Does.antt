@@ -9,13 +9,12 @@ use lib.Dec.{eqb}
 use lib.ListN.{length}
 use Rattle.search.specs.Choice.{if_then_else_}
 use Rattle.answer.specs.declared.Answer.{Answer}
-use Rattle.answer.specs.Answers.{refusedAt}
 use Rattle.frames.specs.Tables.{Tables}
 use Rattle.frames.specs.Lent.{Slice, entering, leaving}
 use Rattle.rules.specs.declared.Memory.{Memory}
 use Rattle.rules.specs.declared.Record.{Record}
 use Rattle.rules.specs.Limits.{mostAreaNumbers}
-use Rattle.rules.specs.Outcomes.{Outcome, outcome}
+use Rattle.rules.specs.Outcomes.{Outcome, outcome, refuse}
 
 -- the record of a memory and the numbers of its areas
 abbrev pub recordWith : Memory → List ℕ → Record
@@ -41,4 +40,4 @@ hasAllAreas m = eqb (length (m .areas)) mostAreaNumbers
 
 -- a call that may write among them: lent more of them or fewer, it is refused as the wrong shape
 unfoldable pub withAllAreas : (Record → Tables → Outcome) → Record → Tables → Outcome
-withAllAreas call m t = if hasAllAreas m then call m t else outcome m (refusedAt 1 0) t
+withAllAreas call m t = if hasAllAreas m then call m t else refuse m t 1
