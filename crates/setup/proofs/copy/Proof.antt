@@ -12,13 +12,13 @@ use Rattle.setup.proofs.copy.Statement.{statement}
 use Rattle.setup.proofs.copy.Tie as tie
 
 abbrev Inv-loop : tie.InvT-loop
-Inv-loop to₀ from i₀ to i = (i ≤ length from) × (to ≡ paste to₀ 0 from i) × (length to ≡ length to₀)
+Inv-loop to₀ from i₀ to i = (to ≡ paste to₀ 0 from i) × (i ≤ length from) × (length to ≡ length to₀)
 
 abbrev μ-loop : tie.MeasureT-loop
 μ-loop to₀ from i₀ to i = length from - i
 
 loop-holds : tie.Need-loop-holds Inv-loop μ-loop
-loop-holds c = let a = c .args in (omega arith, paste-zero (now (a .to)) 0 (now (a .from)), refl)
+loop-holds c = let a = c .args in (paste-zero (now (a .to)) 0 (now (a .from)), omega arith, refl)
 
 mul-to : tie.Need-mul-to Inv-loop μ-loop
 mul-to c = omega arith
@@ -42,11 +42,11 @@ loop-again : tie.Need-loop-again Inv-loop μ-loop
 loop-again c =
     let a = c .before .before .before .args in
     let l = c .before .before .loop in (
-      omega arith,
-      ap (λ (t : List ℕ). set t (l .i) (getD (now (a .from)) (l .i) 0)) (l .inv .1)
+      ap (λ (t : List ℕ). set t (l .i) (getD (now (a .from)) (l .i) 0)) (l .inv .0)
           ∙ ap (λ (k : ℕ). set (paste (now (a .to)) 0 (now (a .from)) (l .i)) k (getD (now (a .from)) (l .i) 0)) (sym (zero-add (l .i)))
           ∙ paste-suc (now (a .to)) 0 (now (a .from)) (l .i) 0 (omega arith) (omega arith)
           ∙ ap (paste (now (a .to)) 0 (now (a .from))) (sym (add-one (l .i))),
+      omega arith,
       simp length-set (l .inv .2),
     )
 
@@ -57,7 +57,7 @@ returns : tie.Need-returns Inv-loop μ-loop
 returns c =
     let a = c .before .before .args in
     let all : c .before .loop .i ≡ length (now (a .from)) = omega arith in
-    c .before .loop .inv .1 ∙ ap (paste (now (a .to)) 0 (now (a .from))) all
+    c .before .loop .inv .0 ∙ ap (paste (now (a .to)) 0 (now (a .from))) all
     ∙ rw (take-length (now (a .from)), zero-add (length (now (a .from))), drop-of-length-le (now (a .to)) {i = length (now (a .from))} (omega arith)) (append-nil (now (a .from)))
 
 pub copy-spec : {M : Type 1} → statement M
