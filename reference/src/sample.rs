@@ -7,6 +7,9 @@ use crate::regions::MAX_TEXT;
 use crate::replay::{decode, encode, Station, BITMAP_WORDS};
 use crate::Request;
 
+/// The most areas, and the most regions of a text.
+const MAX_AREAS: u64 = Machine::MAX_AREAS;
+
 /// The splitmix64 generator.
 pub struct Rng(u64);
 
@@ -116,9 +119,9 @@ fn first_frame(rng: &mut Rng, frames: u64) -> u64 {
 fn area_plan(rng: &mut Rng, size: Size, blocks: u64) -> (u64, u64, u64) {
     match size {
         Size::Small => (rng.pick(&[0, 1, 1, 2, 3, 8, 8]), 50, rng.pick(&[1, 2, 4, 16, 80])),
-        Size::Crowded => (rng.pick(&[30, 63, 64, 64, 64]), 90, rng.pick(&[1, 1, 2])),
+        Size::Crowded => (rng.pick(&[30, MAX_AREAS - 1, MAX_AREAS, MAX_AREAS, MAX_AREAS]), 90, rng.pick(&[1, 1, 2])),
         Size::Large => {
-            let wanted = rng.pick(&[1, 2, 8, 64, 64]);
+            let wanted = rng.pick(&[1, 2, 8, MAX_AREAS, MAX_AREAS]);
             (wanted, 70, (2 * blocks / wanted).max(1))
         }
     }
@@ -243,7 +246,7 @@ fn break_record(rng: &mut Rng, state: &mut State, fault: u64) {
         3 => m.frames = 0,
         4 => m.frames = rng.pick(&[Machine::MAX_FRAMES + 1, 1 << 36, 1 << 63, u64::MAX]),
         5 => m.order = rng.pick(&[11, 12, 63, 64, 65, 1 << 32, u64::MAX]),
-        6 => m.declared = rng.pick(&[65, 66, 1 << 32, 1 << 63, u64::MAX]),
+        6 => m.declared = rng.pick(&[MAX_AREAS + 1, MAX_AREAS + 2, 1 << 32, 1 << 63, u64::MAX]),
         7 => change_length(rng, &mut state.marks),
         8 => change_length(rng, &mut state.words),
         _ => m.frames += 1,
@@ -417,7 +420,7 @@ pub fn text(rng: &mut Rng, state: &State) -> Vec<u8> {
 /// Small regions, most often about as many as can be, and often with a byte
 /// too many at the end.
 fn plain_regions(rng: &mut Rng) -> Vec<u8> {
-    let count = rng.pick(&[9, 62, 63, 64, 64, 64, 65, 66]);
+    let count = rng.pick(&[9, MAX_AREAS - 2, MAX_AREAS - 1, MAX_AREAS, MAX_AREAS, MAX_AREAS, MAX_AREAS + 1, MAX_AREAS + 2]);
     let regions: Vec<String> = (0..count).map(|i| format!("r{i}=1")).collect();
     let tail = rng.pick(&["", "", ";", ";;", ";!", ";a"]);
     (regions.join(";") + tail).into_bytes()
@@ -430,7 +433,7 @@ fn long_text(rng: &mut Rng) -> Vec<u8> {
     if rng.percent(50) {
         return b"a=4096".iter().copied().cycle().take(length).collect();
     }
-    let count = rng.within(1, 65) as usize;
+    let count = rng.within(1, MAX_AREAS + 1) as usize;
     let digits = length / count - 8;
     let later: String = (1..count).map(|i| format!(";r{i}={:0>digits$}", 1)).collect();
     format!("r0={:0>width$}{later}", 1, width = length - 3 - later.len()).into_bytes()
@@ -743,8 +746,8 @@ fn sized_boot_start(rng: &mut Rng, size: Size) -> (State, Call) {
     let frames = frame_count(rng, size);
     let bitmap_len = match size {
         Size::Small => rng.pick(&[0, 1, 8, 40, BITMAP_WORDS]),
-        Size::Crowded => rng.pick(&[63, 64, BITMAP_WORDS]),
-        Size::Large => rng.pick(&[BITMAP_WORDS, frames as usize / 64 + 64, frames as usize / 64 + 64]),
+        Size::Crowded => rng.pick(&[MAX_AREAS as usize - 1, MAX_AREAS as usize, BITMAP_WORDS]),
+        Size::Large => rng.pick(&[BITMAP_WORDS, (frames / 64 + MAX_AREAS) as usize, (frames / 64 + MAX_AREAS) as usize]),
     };
     let mut state = State::fresh(frames as usize, bitmap_len);
     state.marks.iter_mut().for_each(|mark| *mark = rng.next() as u32);
@@ -763,7 +766,7 @@ fn sized_boot_start(rng: &mut Rng, size: Size) -> (State, Call) {
 /// the reference would look at every place anew.
 fn large_regions(rng: &mut Rng, machine: &Machine) -> Vec<u8> {
     let block = PAGE << machine.order;
-    let count = rng.pick(&[1, 2, 64]);
+    let count = rng.pick(&[1, 2, MAX_AREAS]);
     let first = (machine.base * PAGE).div_ceil(block) * block;
     let size = (machine.frames * PAGE / count / block).max(1) * block;
     let mut number = |value| some_text_number(rng, value);

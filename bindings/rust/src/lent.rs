@@ -1,8 +1,8 @@
 //! The library's functions on plain slices, and all of this crate's unsafe code.
 //!
 //! They take slices of any length and any contents. With an answer shorter than 3 numbers a call writes 1 to its first, if it has one, and
-//! changes nothing else; with a record shorter than 196 it answers 1, 0, 0 and changes nothing else; numbers after the first 196 and the
-//! first 3 are kept.
+//! changes nothing else; with a record shorter than `Machine::NUMBERS` it answers 1, 0, 0 and changes nothing else; numbers after as
+//! many and after the answer's 3 are kept.
 
 /// The five slices that every call is lent.
 pub struct Lent<'a> {

@@ -48,9 +48,9 @@ stepsRight (s ∷ ss) marks m t =
     let o = perform (s .call) [] m t in
     sameAnswer (o .answer) (s .answer) && stepsRight ss marks (o .machine) (o .left)
 
--- an example starts with a fresh record, 32 frames and 40 bitmap words
+-- an example starts with a fresh record, 32 frames and as many bitmap words as a replay lends, 96
 unfoldable pub isRight : Example → Bool
-isRight e = stepsRight (e .steps) (e .marks) freshRecord (tables (replicate 32 0) (replicate 32 0) (replicate 40 0))
+isRight e = stepsRight (e .steps) (e .marks) freshRecord (tables (replicate 32 0) (replicate 32 0) (replicate 96 0))
 
 unfoldable pub allRight : List Example → Bool
 allRight [] = true
