@@ -2,7 +2,8 @@
  * szk.h: the page manager's calls, for C.
  *
  * Link with target/staticlib/libszk.a, which `rt staticlib szk` proves and writes. The rules are
- * those of document 01; what is said here is a summary of them for a caller.
+ * those of documents 01 and 02, as far as 02 has landed; what is said here is a summary of them
+ * for a caller.
  *
  * A machine is a record of SZK_RECORD_NUMBERS numbers and three tables, all of them the caller's.
  * Every call is lent the record, the tables and a place for its answer, each as a pointer and a

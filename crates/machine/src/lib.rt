@@ -1,8 +1,8 @@
 // The machine record's calls, as methods by value, and one function that performs any of them.
 //
 // Each takes any record, any numbers, any text and any tables, and hands the next record back with the answer: its memory by value, and the
-// numbers of its areas where they were lent, so that no call copies them. A refused call has changed nothing. What a call does stands in
-// `page_calls`, `device_calls` and `setup`.
+// numbers of its areas where they were lent, so that no call but a boot, which plans in numbers of its own, copies them. A refused call has changed
+// nothing. What a call does stands in `page_calls`, `device_calls` and `setup`.
 ghost use Rattle.rules.specs.PageCalls.{putMovable, putFixed, dropPage, pinPage, unpinPage, storePage, readPage};
 ghost use Rattle.rules.specs.DeviceCalls.{grant, release, deviceStore, deviceRead};
 ghost use Rattle.rules.specs.Declare.{declare};

@@ -19,7 +19,7 @@ use Rattle.playback.specs.declared.Stop.{Stop}
 use Rattle.playback.specs.declared.Stop.the-variants as Stop
 use Rattle.playback.specs.Playback.{answerTo, lineFor, playing, Played, answerRecords}
 
--- how many frames the program holds, and how many bitmap words it lends
+-- how many frames the program holds, and how many bitmap words it lends: document 02, request (v), keeps the frames and has more words
 abbrev pub heldFrames : ℕ
 heldFrames = 2048
 

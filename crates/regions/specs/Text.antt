@@ -51,6 +51,7 @@ region before s at =
     optional 58 allocator 0 s at₄ then λ _ at₅.
     gives (record { name = at; length = n; size = bytes; start = from; alignment = to }) at₅
 
+-- the most bytes of a text, and the most regions that it gives: document 02, request (v)
 abbrev pub mostText : ℕ
 mostText = 8192
 

@@ -1,4 +1,5 @@
--- Document 01, "The machine and its neighbours", the first table: what is allowed. Byte amounts are `mostBytes` of text/specs/Numbers.
+-- Document 01, "The machine and its neighbours", the first table, with the frames and areas of document 02, request (v): what is allowed. Byte
+-- amounts are `mostBytes` of text/specs/Numbers.
 use Prim.Native.Nat.{ℕ, _*_, _^_}
 use Rattle.frames.specs.Areas.{areaNumbers}
 use Rattle.frames.specs.Areas as Areas

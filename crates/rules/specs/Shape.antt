@@ -12,7 +12,7 @@ use Rattle.rules.specs.declared.Record.{Record}
 use Rattle.rules.specs.Record.{areaAt}
 use Rattle.rules.specs.Limits.{leastFrames, mostFrames, leastBase, mostEnd, mostBlockOrder, mostAreas}
 
--- the first frame, the number of frames and the block order keep to the first table
+-- the first frame, the number of frames and the block order keep to the first table, with document 02's frames
 unfoldable pub memoryRight : ℕ → ℕ → ℕ → Bool
 memoryRight base frames blockOrder =
     leb leastBase base && leb leastFrames frames && leb frames mostFrames && leb (base + frames) mostEnd && leb blockOrder mostBlockOrder

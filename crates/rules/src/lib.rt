@@ -17,15 +17,15 @@ pub struct Memory {
     pub declared: u64,
 }
 
-// The machine record, which each call takes and hands back: its memory by value, and the numbers of its areas lent, so that none is copied. They
-// are one flat array: a slice of numbers is proved with no walk of the code, and a slice of structs is not.
+// The machine record, which each call takes and hands back: its memory by value, and the numbers of its areas lent, so that no call but a boot
+// copies them. They are one flat array: a slice of numbers is proved with no walk of the code, and a slice of structs is not.
 pub struct Record {
     pub memory: Memory,
     pub areas: [u64; Record::AREA_NUMBERS],
 }
 
 impl Record {
-    // The limits that a record and its calls keep to: document 01's first table.
+    // The limits that a record and its calls keep to: document 01's first table, with the frames and areas of document 02, request (v).
     pub const LEAST_FRAMES: u64 = 1;
 
     pub const MOST_FRAMES: u64 = 262144;

@@ -1,4 +1,5 @@
--- Document 01, "The machine and its neighbours": the right shape, with the limits of the first table themselves, in plain orders and quantifiers.
+-- Document 01, "The machine and its neighbours": the right shape, with the limits of the first table themselves, the frames and areas being those
+-- of document 02, request (v), in plain orders and quantifiers.
 use Prim.Native.Nat.{ℕ, _+_, _%_, _^_, _≤_, _<_}
 use mathlib.Core.Path.{_≡_}
 use mathlib.Core.Logic.{_↔_}
@@ -11,7 +12,7 @@ use Rattle.rules.specs.declared.Record.{Record}
 use Rattle.rules.specs.Record.{areaAt}
 use Rattle.rules.specs.Shape.{shapeRight}
 
--- the first frame P, the number of frames n and the block order b keep to the first table
+-- the first frame P, the number of frames n and the block order b keep to the first table, n as document 02 has it
 pub record RightMemory (base frames blockOrder : ℕ) : Type 0 where
   pub base-least : 1 ≤ base
   pub frames-least : 1 ≤ frames
