@@ -1,2 +1,4 @@
 pub mod Disjoint
+pub mod Gaps
 pub mod Returns
+pub mod Sums

@@ -1,21 +1,26 @@
 // The shape of a record and of the tables lent with it, for any field values and any lengths. Every call but boot checks it first, so the
 // record's areas are lent, and none is copied.
-ghost use Prim.Native.Nat.{_≤_, min, max};
+ghost use Prim.Native.Nat.{_+_};
 ghost use mathlib.Core.Path.{_≡_};
 ghost use mathlib.Core.Bool.{true};
 ghost use Rattle.search.specs.Search.{every};
-ghost use Rattle.frames.specs.Areas.{areaIn, endOf, areDisjoint};
+ghost use Rattle.frames.specs.Areas.{areaIn, areDisjoint};
 ghost use Rattle.frames.specs.Lent.{entering};
-ghost use Rattle.rules.specs.Limits.{mostEnd};
 ghost use Rattle.rules.specs.Shape.{memoryRight, areaRight, areaFits, shapeRight};
 ghost use Rattle.rules.specs.Does.{given};
-ghost use Rattle.shape.specs.steps.Spans.{LieBetween};
+ghost use Rattle.shape.specs.steps.Gaps.{liesIn, IsFree, PartBeside, PastEnd};
 use frames::Area;
 use frames::Frame;
 use frames::area_at;
 use frames::first_word;
 use rules::Memory;
 use rules::Record;
+
+// Frames in a row that no area looked at so far holds: the first, and the one after the last.
+struct Gap {
+    from: Frame,
+    end: Frame,
+}
 
 // The first frame, the number of frames and the block order keep to their limits.
 pub fn memory_right(base: Frame, frames: u64, block_order: u64) -> bool
@@ -97,61 +102,111 @@ fn apart_from_lower(areas: &[u64], i: usize) -> bool
     true
 }
 
-// The same, where the areas before it lie between two frames: one that lies above them all, or below, is told at one look.
-fn apart_from_span(areas: &[u64], i: usize, low: Frame, high: Frame) -> bool
-    requires { ⌜ LieBetween (now areas) i (low .0) (high .0) ⌝ }
-    requires { ⌜ endOf (areaIn (now areas) i) ≤ mostEnd ⌝ }
-    ensures { λ r. ⌜ r ≡ every (λ k. areDisjoint (areaIn (now (areas .entry)) k) (areaIn (now (areas .entry)) i)) 0 i ⌝ }
+// The area lies in the gap.
+fn lies_in(a: Area, gap: Gap) -> bool
+    ensures { λ r. ⌜ r ≡ liesIn a gap ⌝ }
+{
+    if a.base.0 < gap.from.0 {
+        return false;
+    }
+    if gap.end.0 < a.base.0 {
+        return false;
+    }
+    a.count <= gap.end.0 - a.base.0
+}
+
+// The larger part that an area in a gap leaves of it, below the area or above.
+fn larger_part(a: Area, gap: Gap) -> Gap
+    requires { ⌜ liesIn a gap ≡ true ⌝ }
+    ensures { λ r. ⌜ PartBeside a gap r ⌝ }
+{
+    let from = gap.from;
+    let first = a.base;
+    let past = Frame(first.0 + a.count);
+    let end = gap.end;
+    if end.0 - past.0 < first.0 - from.0 {
+        return Gap { from, end: first };
+    }
+    Gap { from: past, end }
+}
+
+// The end of an area, where that is after `from` and not after `most`; else `from`.
+fn end_or(a: Area, most: Frame, from: Frame) -> Frame
+    ensures { λ r. ⌜ PastEnd a (most .0) (from .0) (r .0) ⌝ }
+{
+    if most.0 < a.base.0 {
+        return from;
+    }
+    if most.0 - a.base.0 < a.count {
+        return from;
+    }
+    if a.base.0 + a.count <= from.0 {
+        return from;
+    }
+    Frame(a.base.0 + a.count)
+}
+
+// What lies right below an area that is apart from those before it: from the highest end of one that ends there, or from `base`, up to it.
+fn gap_below(areas: &[u64], i: usize, base: Frame) -> Gap
+    requires { ⌜ every (λ k. areDisjoint (areaIn (now areas) k) (areaIn (now areas) i)) 0 i ≡ true ⌝ }
+    ensures { λ r. ⌜ IsFree (now (areas .entry)) (i + 1) r ⌝ }
 {
     let a = area_at(areas, i);
-    if high.0 <= a.base.0 {
-        return true;
+    let end = a.base;
+    let mut from = base;
+    let mut k = 0;
+    while k < i {
+        from = end_or(area_at(areas, k), end, from);
+        k += 1;
     }
-    if a.base.0 + a.count <= low.0 {
+    Gap { from, end }
+}
+
+// An area shares no frame with an area before it, where a gap is free of those: one that lies in the gap is told at one look.
+fn apart_by_gap(areas: &[u64], i: usize, gap: Gap) -> bool
+    requires { ⌜ IsFree (now areas) i gap ⌝ }
+    ensures { λ r. ⌜ r ≡ every (λ k. areDisjoint (areaIn (now (areas .entry)) k) (areaIn (now (areas .entry)) i)) 0 i ⌝ }
+{
+    if lies_in(area_at(areas, i), gap) {
         return true;
     }
     apart_from_lower(areas, i)
 }
 
-// The lower of two frames.
-fn lower(a: Frame, b: Frame) -> Frame
-    ensures { λ r. ⌜ r .0 ≡ min (a .0) (b .0) ⌝ }
+// A gap that is free of one area more, which is apart from those before it.
+fn next_gap(areas: &[u64], i: usize, gap: Gap, base: Frame) -> Gap
+    requires { ⌜ IsFree (now areas) i gap ⌝ }
+    requires { ⌜ every (λ k. areDisjoint (areaIn (now areas) k) (areaIn (now areas) i)) 0 i ≡ true ⌝ }
+    ensures { λ r. ⌜ IsFree (now (areas .entry)) (i + 1) r ⌝ }
 {
-    if b.0 < a.0 {
-        return b;
+    let a = area_at(areas, i);
+    if lies_in(a, gap) {
+        return larger_part(a, gap);
     }
-    a
+    gap_below(areas, i, base)
 }
 
-// The higher of two frames.
-fn higher(a: Frame, b: Frame) -> Frame
-    ensures { λ r. ⌜ r .0 ≡ max (a .0) (b .0) ⌝ }
-{
-    if a.0 < b.0 {
-        return b;
-    }
-    a
-}
-
-// Every declared area is right, and they are apart. Those that a declaration has placed mostly lie above or below all before them.
+// Every declared area is right, and they are apart. Those that follow one another upwards or downwards, with a few others before or among
+// them, mostly lie in the gap that is kept.
 fn areas_fit(memory: Memory, areas: &[u64]) -> bool
     requires { ⌜ memoryRight (memory .base .0) (memory .frames) (memory .«block_order») ≡ true ⌝ }
     ensures { λ r. ⌜ r ≡ every (areaFits (given memory areas)) 0 (memory .declared) ⌝ }
 {
     let declared = memory.declared as usize;
-    let mut low = Frame(memory.base.0 + memory.frames);
-    let mut high = memory.base;
+    let base = memory.base;
+    let mut gap = Gap {
+        from: base,
+        end: Frame(base.0 + memory.frames),
+    };
     let mut i = 0;
     while i < declared {
-        let a = area_at(areas, i);
-        if !area_right(memory, a) {
+        if !area_right(memory, area_at(areas, i)) {
             return false;
         }
-        if !apart_from_span(areas, i, low, high) {
+        if !apart_by_gap(areas, i, gap) {
             return false;
         }
-        low = lower(low, a.base);
-        high = higher(high, Frame(a.base.0 + a.count));
+        gap = next_gap(areas, i, gap, base);
         i += 1;
     }
     true
