@@ -1,6 +1,6 @@
 // The shape of a record and of the tables lent with it, for any field values and any lengths. Every call but boot checks it first, so the
 // record's areas are lent, and none is copied.
-ghost use Prim.Native.Nat.{_+_};
+ghost use Prim.Native.Nat.{_+_, _≤_, min, max};
 ghost use mathlib.Core.Path.{_≡_};
 ghost use mathlib.Core.Bool.{true};
 ghost use Rattle.search.specs.Search.{every};
@@ -8,7 +8,7 @@ ghost use Rattle.frames.specs.Areas.{areaIn, areDisjoint};
 ghost use Rattle.frames.specs.Lent.{entering};
 ghost use Rattle.rules.specs.Shape.{memoryRight, areaRight, areaFits, shapeRight};
 ghost use Rattle.rules.specs.Does.{given};
-ghost use Rattle.shape.specs.steps.Gaps.{liesIn, IsFree, PartBeside, PastEnd};
+ghost use Rattle.shape.specs.steps.Gaps.{liesIn, IsFree, PartBeside};
 use frames::Area;
 use frames::Frame;
 use frames::area_at;
@@ -115,6 +115,26 @@ fn lies_in(a: Area, gap: Gap) -> bool
     a.count <= gap.end.0 - a.base.0
 }
 
+// The lower of two frames.
+fn lower(a: Frame, b: Frame) -> Frame
+    ensures { λ r. ⌜ r .0 ≡ min (a .0) (b .0) ⌝ }
+{
+    if b.0 < a.0 {
+        return b;
+    }
+    a
+}
+
+// The higher of two frames.
+fn higher(a: Frame, b: Frame) -> Frame
+    ensures { λ r. ⌜ r .0 ≡ max (a .0) (b .0) ⌝ }
+{
+    if a.0 < b.0 {
+        return b;
+    }
+    a
+}
+
 // The larger part that an area in a gap leaves of it, below the area or above.
 fn larger_part(a: Area, gap: Gap) -> Gap
     requires { ⌜ liesIn a gap ≡ true ⌝ }
@@ -130,36 +150,43 @@ fn larger_part(a: Area, gap: Gap) -> Gap
     Gap { from: past, end }
 }
 
-// The end of an area, where that is after `from` and not after `most`; else `from`.
-fn end_or(a: Area, most: Frame, from: Frame) -> Frame
-    ensures { λ r. ⌜ PastEnd a (most .0) (from .0) (r .0) ⌝ }
+// The part of a gap around an area in it that another, which is apart from that area, leaves.
+fn past_other(gap: Gap, a: Area, other: Area) -> Gap
+    requires { ⌜ (liesIn a gap ≡ true) × (1 ≤ a .count) ⌝ }
+    requires { ⌜ areDisjoint other a ≡ true ⌝ }
+    ensures { λ r. ⌜ PartBeside other gap r ⌝ }
+    ensures { λ r. ⌜ liesIn a r ≡ true ⌝ }
 {
-    if most.0 < a.base.0 {
-        return from;
+    let from = gap.from;
+    let end = gap.end;
+    if other.base.0 <= a.base.0 {
+        let past = Frame(other.base.0 + other.count);
+        return Gap {
+            from: higher(from, past),
+            end,
+        };
     }
-    if most.0 - a.base.0 < a.count {
-        return from;
+    Gap {
+        from,
+        end: lower(end, other.base),
     }
-    if a.base.0 + a.count <= from.0 {
-        return from;
-    }
-    Frame(a.base.0 + a.count)
 }
 
-// What lies right below an area that is apart from those before it: from the highest end of one that ends there, or from `base`, up to it.
-fn gap_below(areas: &[u64], i: usize, base: Frame) -> Gap
+// What lies around an area that is apart from those before it: from one of them to the next, or to an end of all frames.
+fn gap_around(areas: &[u64], i: usize, all: Gap) -> Gap
+    requires { ⌜ (liesIn (areaIn (now areas) i) all ≡ true) × (1 ≤ areaIn (now areas) i .count) ⌝ }
     requires { ⌜ every (λ k. areDisjoint (areaIn (now areas) k) (areaIn (now areas) i)) 0 i ≡ true ⌝ }
-    ensures { λ r. ⌜ IsFree (now (areas .entry)) (i + 1) r ⌝ }
+    ensures { λ r. ⌜ IsFree (now (areas .entry)) i r ⌝ }
+    ensures { λ r. ⌜ liesIn (areaIn (now (areas .entry)) i) r ≡ true ⌝ }
 {
     let a = area_at(areas, i);
-    let end = a.base;
-    let mut from = base;
+    let mut gap = all;
     let mut k = 0;
     while k < i {
-        from = end_or(area_at(areas, k), end, from);
+        gap = past_other(gap, a, area_at(areas, k));
         k += 1;
     }
-    Gap { from, end }
+    gap
 }
 
 // An area shares no frame with an area before it, where a gap is free of those: one that lies in the gap is told at one look.
@@ -173,9 +200,10 @@ fn apart_by_gap(areas: &[u64], i: usize, gap: Gap) -> bool
     apart_from_lower(areas, i)
 }
 
-// A gap that is free of one area more, which is apart from those before it.
-fn next_gap(areas: &[u64], i: usize, gap: Gap, base: Frame) -> Gap
+// A gap that is free of one area more, which is apart from those before it: the larger part that it leaves of the gap where it lies.
+fn next_gap(areas: &[u64], i: usize, gap: Gap, all: Gap) -> Gap
     requires { ⌜ IsFree (now areas) i gap ⌝ }
+    requires { ⌜ (liesIn (areaIn (now areas) i) all ≡ true) × (1 ≤ areaIn (now areas) i .count) ⌝ }
     requires { ⌜ every (λ k. areDisjoint (areaIn (now areas) k) (areaIn (now areas) i)) 0 i ≡ true ⌝ }
     ensures { λ r. ⌜ IsFree (now (areas .entry)) (i + 1) r ⌝ }
 {
@@ -183,21 +211,22 @@ fn next_gap(areas: &[u64], i: usize, gap: Gap, base: Frame) -> Gap
     if lies_in(a, gap) {
         return larger_part(a, gap);
     }
-    gap_below(areas, i, base)
+    larger_part(a, gap_around(areas, i, all))
 }
 
-// Every declared area is right, and they are apart. Those that follow one another upwards or downwards, with a few others before or among
-// them, mostly lie in the gap that is kept.
+// Every declared area is right, and they are apart. Areas that follow one another upwards or downwards mostly lie in the gap that is kept,
+// also with a few others before or among them.
 fn areas_fit(memory: Memory, areas: &[u64]) -> bool
     requires { ⌜ memoryRight (memory .base .0) (memory .frames) (memory .«block_order») ≡ true ⌝ }
     ensures { λ r. ⌜ r ≡ every (areaFits (given memory areas)) 0 (memory .declared) ⌝ }
 {
     let declared = memory.declared as usize;
     let base = memory.base;
-    let mut gap = Gap {
+    let all = Gap {
         from: base,
         end: Frame(base.0 + memory.frames),
     };
+    let mut gap = all;
     let mut i = 0;
     while i < declared {
         if !area_right(memory, area_at(areas, i)) {
@@ -206,7 +235,7 @@ fn areas_fit(memory: Memory, areas: &[u64]) -> bool
         if !apart_by_gap(areas, i, gap) {
             return false;
         }
-        gap = next_gap(areas, i, gap, base);
+        gap = next_gap(areas, i, gap, all);
         i += 1;
     }
     true

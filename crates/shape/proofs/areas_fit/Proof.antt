@@ -15,22 +15,24 @@ use Rattle.rules.specs.Record.{areaAt}
 use Rattle.rules.specs.Shape.{areaRight, areaFits}
 use Rattle.rules.specs.Does.{recordWith}
 use Rattle.rules.proofs.Shapes.{memory-known}
+use Rattle.rules.proofs.AreaRight.{right-facts}
 use Rattle.shape.specs.steps.Gaps.{IsFree}
+use Rattle.shape.proofs.Gaps.{does-lie}
 use Rattle.shape.proofs.areas_fit.Statement.{statement}
 use Rattle.shape.proofs.areas_fit.Tie as tie
 
 abbrev Inv-loop : tie.InvT-loop
-Inv-loop memory areas declared base gap₀ i₀ gap i = (i ≤ declared) × (every (areaFits (recordWith memory areas)) 0 i ≡ true) × IsFree areas i gap
+Inv-loop memory areas declared all gap₀ i₀ gap i = (i ≤ declared) × (every (areaFits (recordWith memory areas)) 0 i ≡ true) × IsFree areas i gap
 
 abbrev μ-loop : tie.MeasureT-loop
-μ-loop memory areas declared base gap₀ i₀ gap i = declared - i
+μ-loop memory areas declared all gap₀ i₀ gap i = declared - i
 
 not-apart : (m : Record) (i : ℕ) → every (λ k. areDisjoint (areaAt m k) (areaAt m i)) 0 i ≡ false → areaFits m i ≡ false
 unfolding areaFits
 not-apart m i e = and-right-false (areaRight (m .memory) (areaAt m i)) _ e
 
-add-t7 : tie.Need-add-t7 Inv-loop μ-loop
-add-t7 c = omega (arith, memory-known _ _ _ (c .before .before .before .before .pre) .end-high)
+add-t8 : tie.Need-add-t8 Inv-loop μ-loop
+add-t8 c = omega (arith, memory-known _ _ _ (c .before .before .before .before .pre) .end-high)
 
 loop-holds : tie.Need-loop-holds Inv-loop μ-loop
 loop-holds c = (omega arith, every-none _ 0, λ k l. absurd (omega arith))
@@ -53,8 +55,16 @@ apart-by-gap-requires c κs = c .before .before .before .before .loop .inv .2
 returns-2 : tie.Need-returns-2 Inv-loop μ-loop
 returns-2 c = sym (every-stops _ (c .before .before .before .before .before .before .loop .i) _ (c .before .before .before .before .before .loop-test .taken) (not-apart _ _ (sym (c .before .apart-by-gap .ensures) ∙ not-true _ (c .if2 .taken))))
 
+-- the area is right
+is-right : (c : tie.Else1 Inv-loop μ-loop) → areaRight (c .before .before .before .before .before .before .before .before .before .args .memory) (areaIn (c .before .before .before .before .before .before .before .before .before .args .areas .now) (c .before .before .before .before .loop .i)) ≡ true
+is-right c = sym (rw (c .before .before .area-at .ensures) at (c .before .area-right .ensures)) ∙ not-false _ (c .if1 .left)
+
 next-gap-requires : tie.Need-next-gap-requires Inv-loop μ-loop
-next-gap-requires c κs = (c .before .before .before .before .before .before .loop .inv .2, sym (c .before .apart-by-gap .ensures) ∙ not-false _ (c .if2 .left))
+next-gap-requires c κs =
+    let s = c .before .before .before .before .before .before .before .before .before .before .before in
+    let area = areaIn (s .args .areas .now) (c .before .before .before .before .before .before .loop .i) in
+    let facts = right-facts (recordWith (s .args .memory) (s .args .areas .now)) area (is-right (c .before .before)) in
+    (c .before .before .before .before .before .before .loop .inv .2, ((does-lie area _ (facts .low) (facts .high), facts .some), sym (c .before .apart-by-gap .ensures) ∙ not-false _ (c .if2 .left)))
 
 add-i : tie.Need-add-i Inv-loop μ-loop
 add-i c = omega arith
@@ -64,10 +74,11 @@ loop-less c = omega arith
 
 loop-again : tie.Need-loop-again Inv-loop μ-loop
 unfolding areaFits
-loop-again c =
-    let right = sym (rw (c .before .before .before .before .before .area-at .ensures) at (c .before .before .before .before .area-right .ensures)) ∙ not-false _ (c .before .before .before .if1 .left) in
-    let apart = sym (c .before .before .apart-by-gap .ensures) ∙ not-false _ (c .before .if2 .left) in
-    (omega arith, every-up _ (c .before .before .before .before .before .before .before .loop .i) (c .before .before .before .before .before .before .before .loop .inv .1) (and-both _ _ right apart), c .next-gap .ensures)
+loop-again c = (
+  omega arith,
+  every-up _ (c .before .before .before .before .before .before .before .loop .i) (c .before .before .before .before .before .before .before .loop .inv .1) (and-both _ _ (is-right (c .before .before .before)) (sym (c .before .before .apart-by-gap .ensures) ∙ not-false _ (c .before .if2 .left))),
+  c .next-gap .ensures,
+)
 
 returns-3 : tie.Need-returns-3 Inv-loop μ-loop
 returns-3 c = sym (every-done _ (c .before .loop .i) _ (c .loop-test .left) (c .before .loop .inv .1))
@@ -78,7 +89,7 @@ areas-fit-spec =
     (tie.spec
     Inv-loop
     μ-loop
-    add-t7
+    add-t8
     loop-holds
     area-at-requires
     area-right-requires

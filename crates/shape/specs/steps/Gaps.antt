@@ -25,8 +25,3 @@ pub record PartBeside (a : Area) (gap r : Gap) : Type 0 where
   pub low : gap .from .0 ≤ r .from .0
   pub high : r .end .0 ≤ gap .end .0
   pub beside : IsBeside a r
-
--- r is at or after `from`, and at or after the area's end where that is at or before `most`
-pub record PastEnd (a : Area) (most from r : ℕ) : Type 0 where
-  pub later : from ≤ r
-  pub past : endOf a ≤ most → endOf a ≤ r
