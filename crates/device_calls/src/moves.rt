@@ -15,7 +15,7 @@ ghost use Rattle.rules.specs.Does.{recordWith, given};
 ghost use Rattle.rules.specs.DeviceCalls.{moveOut, markRun};
 ghost use Rattle.device_calls.specs.steps.DeviceSteps.{pageMoved};
 use frames::Place;
-use frames::Run;
+use frames::Stretch;
 use frames::fill_marks;
 use frames::fill_words;
 use frames::in_order;
@@ -74,10 +74,10 @@ pub(crate) fn move_out(
         return;
     }
     let order = in_order(areas, memory.declared);
-    let mut run = Run::none();
+    let mut stretch = Stretch::none();
     while at.0 < end.0 {
-        run = next_free(marks, memory.base, areas, order, run);
-        let to = run.first();
+        stretch = next_free(marks, memory.base, areas, order, stretch);
+        let to = stretch.first();
         move_page(marks, words, at, to);
         at = next_movable(marks, Place(at.0 + 1), end);
     }

@@ -15,7 +15,7 @@ use Rattle.search.proofs.Ranges.{some-hit, none-some}
 use Rattle.frames.specs.declared.Area.{Area}
 use Rattle.frames.specs.declared.Frame.{Frame}
 use Rattle.frames.specs.Units.{frame}
-use Rattle.frames.specs.steps.Runs.{inUse}
+use Rattle.frames.specs.Orders.{inUse}
 use Rattle.frames.specs.Areas.{ceiling, holdsFrame, endOf, areaNumbers, areaIn, noArea, inAreas, wordCount, firstWord}
 use Rattle.frames.proofs.AreaNumbers.{area-past}
 

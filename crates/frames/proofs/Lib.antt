@@ -3,7 +3,7 @@ pub mod AreaNumbers
 pub mod FillFacts
 pub mod MarkFacts
 pub mod Orders
-pub mod RunFacts
 pub mod ScanFacts
+pub mod StretchFacts
 pub mod Stuck
 pub mod Walks

@@ -1,6 +1,6 @@
 -- A walk from one stretch of ordinary places to the next, past the areas in their order. Assumes nothing.
---     Going                     what holds after the areas before `next` were passed; going-start, going-on
---     going-stop, going-end     the next area begins after the place; there is no more area
+--     Underway                        what holds after the areas before `next` were passed; underway-start, underway-on
+--     underway-stop, underway-end     the next area begins after the place; there is no more area
 use Prim.Native.Nat.{ℕ, _+_, _-_, _≤_, _<_, min, max}
 use native.Mathlib.Nat.{le-refl}
 use native.Mathlib.Omega.{arith}
@@ -12,12 +12,13 @@ use Rattle.search.proofs.Bools.{below-or-not}
 use Rattle.frames.specs.declared.Area.{Area}
 use Rattle.frames.specs.declared.Frame.{Frame}
 use Rattle.frames.specs.declared.order.Order.{Order}
-use Rattle.frames.specs.declared.walk.Run.{Run}
+use Rattle.frames.specs.declared.walk.Stretch.{Stretch}
 use Rattle.frames.specs.Units.{frame}
 use Rattle.frames.specs.Areas.{holdsFrame, endOf, areaIn}
 use Rattle.frames.specs.Scans.{inAreasAt}
-use Rattle.frames.specs.steps.Orders.{Ordered}
-use Rattle.frames.specs.steps.Runs.{inUse, Passed, NextRun}
+use Rattle.frames.specs.Orders.{inUse, Ordered}
+use Rattle.frames.specs.Walk.{Behind}
+use Rattle.frames.specs.steps.Stretches.{NextStretch}
 use Rattle.frames.proofs.AreaFacts.{holds-yes, holds-below, holds-above, in-area, out-of-areas}
 
 module _ (base : Frame) (areas : List ℕ) (n : ℕ) (o : Order) (len : ℕ) (ord : Ordered areas (inUse areas n) o) (at : ℕ) where
@@ -25,19 +26,19 @@ module _ (base : Frame) (areas : List ℕ) (n : ℕ) (o : Order) (len : ℕ) (or
   abbrev nth : ℕ → Area
   nth k = areaIn areas (getD (o .list) k 0)
 
-  pub record Going (from next : ℕ) : Type 0 where
+  pub record Underway (from next : ℕ) : Type 0 where
     pub low : at ≤ from
     pub high : from ≤ len
     pub few : next ≤ inUse areas n
     pub held : (q : ℕ) → at ≤ q → q < from → inAreasAt base areas n q ≡ true
-    pub passed : Passed base areas o len from next
+    pub passed : Behind base areas o len from next
 
-  pub going-start : (k : ℕ) → at < len → k ≤ inUse areas n → Passed base areas o len at k → Going at k
-  going-start k h few passed = record { low = le-refl at; high = omega arith; few = few; held = λ q a b. absurd (omega arith); passed = passed }
+  pub underway-start : (k : ℕ) → at < len → k ≤ inUse areas n → Behind base areas o len at k → Underway at k
+  underway-start k h few passed = record { low = le-refl at; high = omega arith; few = few; held = λ q a b. absurd (omega arith); passed = passed }
 
-  module _ {from next : ℕ} (g : Going from next) where
-    pub going-on : next < inUse areas n → nth next .base .0 - base .0 ≤ from → (after : ℕ) → after ≡ max from (min (endOf (nth next) - base .0) len) → Going after (next + 1)
-    going-on room start after e =
+  module _ {from next : ℕ} (g : Underway from next) where
+    pub underway-on : next < inUse areas n → nth next .base .0 - base .0 ≤ from → (after : ℕ) → after ≡ max from (min (endOf (nth next) - base .0) len) → Underway after (next + 1)
+    underway-on room start after e =
         record {
           low = omega (arith, g .low);
           high = omega (arith, g .high);
@@ -67,16 +68,12 @@ module _ (base : Frame) (areas : List ℕ) (n : ℕ) (o : Order) (len : ℕ) (or
         subst (λ (j : ℕ). holdsFrame (areaIn areas j) (frame (base .0 + q)) ≡ false) (found .is)
         (below-or-not (found .at) next (λ v. behind q (found .at) h l v) (λ v. rest (found .at) v (found .low))))
 
-    pub going-stop :
-        at < len → next < inUse areas n → from < nth next .base .0 - base .0 → (r : Run) → r .from .0 ≡ from → r .end .0 ≡ min (nth next .base .0 - base .0) len → r .next ≡ next
-        → NextRun base areas n o at len r
-    going-stop some room start r e f k =
+    pub underway-stop :
+        at < len → next < inUse areas n → from < nth next .base .0 - base .0 → (r : Stretch) → r .from .0 ≡ from → r .end .0 ≡ min (nth next .base .0 - base .0) len → r .next ≡ next
+        → NextStretch base areas n o at len r
+    underway-stop some room start r e f k =
         record {
-          run = record {
-            low = omega (arith, g .low);
-            ordered = omega (arith, g .high);
-            more = omega (arith, g .low);
-            high = omega arith;
+          stretch = record {
             held = λ q a b. g .held q a (omega arith);
             clear = λ q a b.
                 ordinary q (omega arith) (omega arith)
@@ -88,14 +85,10 @@ module _ (base : Frame) (areas : List ℕ) (n : ℕ) (o : Order) (len : ℕ) (or
           passed = λ p h. omega (arith, g .high, g .passed p (omega arith));
         }
 
-    pub going-end : at < len → inUse areas n ≤ next → (r : Run) → r .from .0 ≡ from → r .end .0 ≡ len → r .next ≡ next → NextRun base areas n o at len r
-    going-end some all r e f k =
+    pub underway-end : at < len → inUse areas n ≤ next → (r : Stretch) → r .from .0 ≡ from → r .end .0 ≡ len → r .next ≡ next → NextStretch base areas n o at len r
+    underway-end some all r e f k =
         record {
-          run = record {
-            low = omega (arith, g .low);
-            ordered = omega (arith, g .high);
-            more = omega arith;
-            high = omega arith;
+          stretch = record {
             held = λ q a b. g .held q a (omega arith);
             clear = λ q a b. ordinary q (omega arith) (omega arith) (λ p w v. absurd (omega arith));
           };

@@ -1,7 +1,9 @@
 pub mod Areas
 pub mod Lent
 pub mod Marks
+pub mod Orders
 pub mod Scans
 pub mod Tables
 pub mod Units
+pub mod Walk
 pub mod steps

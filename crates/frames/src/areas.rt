@@ -1,10 +1,10 @@
-// What an area holds, its share of the bitmap, and the areas of a record, which are lent as numbers, `Area::NUMBERS` for each.
+// An area's share of the bitmap, and the areas of a record, which are lent as numbers, `Area::NUMBERS` for each.
 // Frame numbers are compared by their differences: no sum of two of them is made.
 ghost use Prim.Native.Nat.{_<_, _-_, min};
 ghost use mathlib.Core.Path.{_≡_};
 ghost use lib.ListN.{getD, set};
 ghost use Rattle.frames.specs.Units.{mostNumber};
-ghost use Rattle.frames.specs.steps.Runs.{inUse};
+ghost use Rattle.frames.specs.Orders.{inUse};
 ghost use Rattle.frames.specs.Areas.{ceiling, endOf, bitCount, wordCount, firstWord, bitsFor, areaIn, setArea};
 use crate::Area;
 use crate::Frame;

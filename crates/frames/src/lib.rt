@@ -25,7 +25,7 @@ pub use order::Order;
 pub use order::in_order;
 pub use units::frame_at;
 pub use units::place_of;
-pub use walk::Run;
+pub use walk::Stretch;
 
 // A physical frame number.
 pub struct Frame(pub u64);

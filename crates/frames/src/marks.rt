@@ -12,7 +12,8 @@ ghost use Rattle.frames.specs.Units.{place};
 ghost use Rattle.frames.specs.Marks.{hasKind, isPageOf, canLeave, free, movable, later};
 ghost use Rattle.frames.specs.Scans.{marked, hasBits, hasField, isFreeOrdinary};
 ghost use Rattle.frames.specs.Areas.{mostAreas};
-ghost use Rattle.frames.specs.steps.Runs.{FindsFree, NextFree};
+ghost use Rattle.frames.specs.Walk.{NextFree};
+ghost use Rattle.frames.specs.steps.Stretches.{FindsFree};
 use crate::Frame;
 use crate::Place;
 use crate::fills::range_end;
@@ -22,9 +23,9 @@ use crate::kinds::LATER;
 use crate::kinds::MOVABLE;
 use crate::order::Order;
 use crate::order::in_order;
-use crate::walk::Run;
-use crate::walk::earlier;
-use crate::walk::next_run;
+use crate::walk::Stretch;
+use crate::walk::earlier_place;
+use crate::walk::next_stretch;
 
 // The largest field that a mark has room for.
 const MOST_FIELD: u64 = 0x1fff_ffff;
@@ -280,19 +281,26 @@ fn is_movable(mark: u32) -> u64
 // The lowest free place from `from` on that is in none of the areas of an order, in a table that begins at frame `base`, and the end of the
 // ordinary places that it is among; where there is none, the place after the last, or `from` where that is past it, for both. The areas before k
 // end before `from`.
-fn free_run(marks: &[u32], base: Frame, areas: &[u64], order: Order, from: Place, k: usize) -> Run
+fn free_stretch(
+    marks: &[u32],
+    base: Frame,
+    areas: &[u64],
+    order: Order,
+    from: Place,
+    k: usize,
+) -> Stretch
     ensures { λ r. ⌜ FindsFree (now (marks .entry)) base (now (areas .entry)) order (from .0) k r ⌝ }
 {
     let len = marks.len();
     let mut i = from.0;
     let mut next = k;
     while i < len {
-        let run = next_run(base, areas, order, Place(i), next, Place(len));
-        let end = run.end;
-        next = run.next;
-        let at = kind_in(marks, KIND_BITS, false, run.from, end);
+        let stretch = next_stretch(base, areas, order, Place(i), next, Place(len));
+        let end = stretch.end;
+        next = stretch.next;
+        let at = kind_in(marks, KIND_BITS, false, stretch.from, end);
         if at.0 < end.0 {
-            return Run {
+            return Stretch {
                 from: at,
                 end,
                 next,
@@ -300,7 +308,7 @@ fn free_run(marks: &[u32], base: Frame, areas: &[u64], order: Order, from: Place
         }
         i = end.0;
     }
-    Run {
+    Stretch {
         from: Place(i),
         end: Place(i),
         next,
@@ -312,29 +320,36 @@ pub fn find_free_ordinary(marks: &[u32], base: Frame, areas: &[u64], declared: u
     ensures { λ r. ⌜ r ≡ place (lowest (isFreeOrdinary (now (marks .entry)) base (now (areas .entry)) (min declared mostAreas)) (length (now (marks .entry)))) ⌝ }
 {
     let order = in_order(areas, declared);
-    let run = free_run(marks, base, areas, order, Place(0), 0);
-    run.from
+    let stretch = free_stretch(marks, base, areas, order, Place(0), 0);
+    stretch.from
 }
 
-// The same from a run's first place on, with the end of the ordinary places that it is among. For places of the run no area is looked at.
-pub fn next_free(marks: &[u32], base: Frame, areas: &[u64], order: Order, run: Run) -> Run
-    ensures { λ r. ⌜ NextFree (now (marks .entry)) base (now (areas .entry)) order run r ⌝ }
+// The lowest free place from the stretch's first on that is in no area of the order, with the end of the ordinary places that it is among;
+// where that ends is left open, and only time rests on it. Of an order or a stretch that `frames` did not make for these areas nothing is said.
+pub fn next_free(
+    marks: &[u32],
+    base: Frame,
+    areas: &[u64],
+    order: Order,
+    stretch: Stretch,
+) -> Stretch
+    ensures { λ r. ⌜ NextFree (now (marks .entry)) base (now (areas .entry)) order stretch r ⌝ }
 {
     let len = marks.len();
-    let from = run.from;
-    let end = earlier(run.end, Place(len));
+    let from = stretch.from;
+    let end = earlier_place(stretch.end, Place(len));
     if end.0 <= from.0 {
-        return free_run(marks, base, areas, order, from, run.next);
+        return free_stretch(marks, base, areas, order, from, stretch.next);
     }
     let at = kind_in(marks, KIND_BITS, false, from, end);
     if at.0 < end.0 {
-        return Run {
+        return Stretch {
             from: at,
             end,
-            next: run.next,
+            next: stretch.next,
         };
     }
-    free_run(marks, base, areas, order, end, run.next)
+    free_stretch(marks, base, areas, order, end, stretch.next)
 }
 
 // What is left of `least` after the free places of a range are taken off.
@@ -387,10 +402,10 @@ pub fn has_free_ordinary(
         if left == 0 {
             return true;
         }
-        let run = next_run(base, areas, order, Place(i), next, Place(len));
-        left = less_free(marks, run.from, run.end, left);
-        i = run.end.0;
-        next = run.next;
+        let stretch = next_stretch(base, areas, order, Place(i), next, Place(len));
+        left = less_free(marks, stretch.from, stretch.end, left);
+        i = stretch.end.0;
+        next = stretch.next;
     }
     left == 0
 }

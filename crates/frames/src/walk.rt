@@ -2,7 +2,7 @@
 ghost use Prim.Native.Nat.{_<_, min, max};
 ghost use mathlib.Core.Path.{_≡_};
 ghost use Rattle.frames.specs.Units.{place};
-ghost use Rattle.frames.specs.steps.Runs.{Within, WalksOn};
+ghost use Rattle.frames.specs.steps.Stretches.{Within, WalksOn};
 use crate::Frame;
 use crate::Place;
 use crate::areas::area_at;
@@ -10,13 +10,13 @@ use crate::order::Order;
 use crate::units::place_of;
 
 // Some places in a row: the first, and the one after the last. The areas before `next`, in their order, end before them.
-pub struct Run {
+pub struct Stretch {
     pub(crate) from: Place,
     pub(crate) end: Place,
     pub(crate) next: usize,
 }
 
-impl Run {
+impl Stretch {
     // Before the first: no place.
     pub fn none() -> Self
         ensures { λ r. ⌜ r ≡ record { from = place 0; end = place 0; next = 0 } ⌝ }
@@ -37,7 +37,7 @@ impl Run {
 }
 
 // The earlier of two places.
-pub(crate) fn earlier(a: Place, b: Place) -> Place
+pub(crate) fn earlier_place(a: Place, b: Place) -> Place
     ensures { λ r. ⌜ r .0 ≡ min (a .0) (b .0) ⌝ }
 {
     if b.0 < a.0 {
@@ -47,7 +47,7 @@ pub(crate) fn earlier(a: Place, b: Place) -> Place
 }
 
 // The later of two places.
-fn later(a: Place, b: Place) -> Place
+fn later_place(a: Place, b: Place) -> Place
     ensures { λ r. ⌜ r .0 ≡ max (a .0) (b .0) ⌝ }
 {
     if a.0 < b.0 {
@@ -58,16 +58,16 @@ fn later(a: Place, b: Place) -> Place
 
 // The next ordinary places from `at` on, up to `end`, where the areas before k end before `at`; none of them, at `end`, where all that is left
 // is in areas.
-pub(crate) fn next_run(
+pub(crate) fn next_stretch(
     base: Frame,
     areas: &[u64],
     order: Order,
     at: Place,
     k: usize,
     end: Place,
-) -> Run
+) -> Stretch
     requires { ⌜ at .0 < end .0 ⌝ }
-    ensures { λ r. ⌜ Within (at .0) (end .0) r ⌝ }
+    ensures { λ r. ⌜ Within (at .0) (end .0) (r .from .0) (r .end .0) ⌝ }
     ensures { λ r. ⌜ WalksOn base (now (areas .entry)) order (at .0) k (end .0) r ⌝ }
 {
     let mut from = at;
@@ -76,14 +76,14 @@ pub(crate) fn next_run(
         let area = area_at(areas, order.nth(next));
         let start = place_of(base, area.base);
         if from.0 < start.0 {
-            return Run {
+            return Stretch {
                 from,
-                end: earlier(start, end),
+                end: earlier_place(start, end),
                 next,
             };
         }
-        from = later(from, area.end_place(base, end));
+        from = later_place(from, area.end_place(base, end));
         next += 1;
     }
-    Run { from, end, next }
+    Stretch { from, end, next }
 }

@@ -1,5 +1,5 @@
--- `device_calls::moves::move_out` meets its contract: at the loop's head the pages from `at` on are still to move, no place below the run's
--- first is free and ordinary, and the walk can go on from the run. Assumes nothing.
+-- `device_calls::moves::move_out` meets its contract: at the loop's head the pages from `at` on are still to move, no place below the
+-- stretch's first is free and ordinary, and the walk can go on from there. Assumes nothing.
 use native.Mathlib.Omega.{arith}
 use Prim.Native.Nat.{ℕ, _+_, _-_, min}
 use mathlib.Core.Path.{_≡_, refl, sym, ap, subst, _∙_}
@@ -7,10 +7,10 @@ use mathlib.Core.List.{[]}
 use lib.ListN.{length}
 use Rattle.frames.specs.Units.{place}
 use Rattle.frames.specs.Areas.{mostAreas}
-use Rattle.frames.specs.declared.walk.Run.{Run}
+use Rattle.frames.specs.declared.walk.Stretch.{Stretch}
 use Rattle.frames.specs.Tables.{tables}
-use Rattle.frames.specs.steps.Orders.{Ordered}
-use Rattle.frames.specs.steps.Runs.{inUse, Walks, FreeRun}
+use Rattle.frames.specs.Orders.{inUse, Ordered}
+use Rattle.frames.specs.Walk.{Walks, FreeStretch}
 use Rattle.rules.specs.declared.Record.{Record}
 use Rattle.rules.specs.Does.{recordWith}
 use Rattle.device_calls.proofs.MoveFacts.{not-before, Moving, moving-start, moving-turn, moving-end}
@@ -18,11 +18,11 @@ use Rattle.device_calls.proofs.moves.move_out.Statement.{statement}
 use Rattle.device_calls.proofs.moves.move_out.Tie as tie
 
 abbrev Inv : tie.InvT-loop
-Inv memory areas ms₀ ws₀ count end at₀ order run₀ ms ws at run =
-    Moving (recordWith memory areas) (tables ms₀ ws₀ []) (at₀ .0) (end .0) (tables ms ws []) (at .0) (run .from .0) × Walks (memory .base) areas (memory .declared) (memory .frames) order run
+Inv memory areas ms₀ ws₀ count end at₀ order stretch₀ ms ws at stretch =
+    Moving (recordWith memory areas) (tables ms₀ ws₀ []) (at₀ .0) (end .0) (tables ms ws []) (at .0) (stretch .from .0) × Walks (memory .base) areas (memory .declared) (memory .frames) order stretch
 
 abbrev μ : tie.MeasureT-loop
-μ memory areas ms₀ ws₀ count end at₀ order run₀ ms ws at run = end .0 - at .0
+μ memory areas ms₀ ws₀ count end at₀ order stretch₀ ms ws at stretch = end .0 - at .0
 
 abbrev machine : tie.Start Inv μ → Record
 machine s = recordWith (s .args .memory) (s .args .areas .now)
@@ -58,7 +58,7 @@ loop-holds : tie.Need-loop-holds Inv μ
 loop-holds c =
     let x = c .before .before .before .before .before .before .before .before .before .before .before .args in
     subst
-    (λ (r : Run). Moving (machine (c .before .before .before .before .before .before .before .before .before .before .before)) (tables (x .marks .now) (x .words .now) []) (c .before .before .before .before .before .next-movable .result .0) (x .page .0 + x .count) (tables (x .marks .now) (x .words .now) []) (c .before .before .before .before .before .next-movable .result .0) (r .from .0) × Walks (x .memory .base) (x .areas .now) (x .memory .declared) (x .memory .frames) (c .before .in-order .result) r)
+    (λ (r : Stretch). Moving (machine (c .before .before .before .before .before .before .before .before .before .before .before)) (tables (x .marks .now) (x .words .now) []) (c .before .before .before .before .before .next-movable .result .0) (x .page .0 + x .count) (tables (x .marks .now) (x .words .now) []) (c .before .before .before .before .before .next-movable .result .0) (r .from .0) × Walks (x .memory .base) (x .areas .now) (x .memory .declared) (x .memory .frames) (c .before .in-order .result) r)
     (sym (c .none .ensures)) (
       moving-start (machine (c .before .before .before .before .before .before .before .before .before .before .before)) _ _ _ (x .page .0) (omega arith) (c .before .before .before .before .before .next-movable .ensures),
       record { ordinary = λ k low high. absurd (omega arith); next = omega arith; passed = λ p h. absurd (omega arith) },
@@ -71,12 +71,12 @@ next-free-requires c κs = tt
 long : (c : tie.At-loop Inv μ) → length (c .loop .marks) ≡ c .before .before .before .before .before .before .before .before .before .before .before .before .args .memory .frames
 long c = c .loop .inv .0 .same-marks ∙ c .before .before .before .before .before .before .before .before .before .before .before .before .pre .2
 
--- where the next page goes, and the run from there on
-target : (c : tie.After-next-free Inv μ) → FreeRun (c .before .before .before .before .before .loop .marks) (c .before .before .before .before .before .before .before .before .before .before .before .before .before .before .before .before .before .args .memory .base) (c .before .before .before .before .before .before .before .before .before .before .before .before .before .before .before .before .before .args .areas .now) (c .before .before .before .before .before .before .before .before .before .before .before .before .before .before .before .before .before .args .memory .declared) (c .before .before .before .before .before .before .before .in-order .result) (c .before .before .before .before .before .loop .run .from .0) (c .next-free .result)
+-- where the next page goes, and the stretch from there on
+target : (c : tie.After-next-free Inv μ) → FreeStretch (c .before .before .before .before .before .loop .marks) (c .before .before .before .before .before .before .before .before .before .before .before .before .before .before .before .before .before .args .memory .base) (c .before .before .before .before .before .before .before .before .before .before .before .before .before .before .before .before .before .args .areas .now) (c .before .before .before .before .before .before .before .before .before .before .before .before .before .before .before .before .before .args .memory .declared) (c .before .before .before .before .before .before .before .in-order .result) (c .before .before .before .before .before .loop .stretch .from .0) (c .next-free .result)
 target c =
     let x = c .before .before .before .before .before .before .before .before .before .before .before .before .before .before .before .before .before .args in
     c .next-free .ensures (x .memory .declared) (ordered (c .before .before .before .before .before .before .before))
-    (subst (λ (n : ℕ). Walks (x .memory .base) (x .areas .now) (x .memory .declared) n (c .before .before .before .before .before .before .before .in-order .result) (c .before .before .before .before .before .loop .run)) (sym (long (c .before .before .before .before .before))) (c .before .before .before .before .before .loop .inv .1))
+    (subst (λ (n : ℕ). Walks (x .memory .base) (x .areas .now) (x .memory .declared) n (c .before .before .before .before .before .before .before .in-order .result) (c .before .before .before .before .before .loop .stretch)) (sym (long (c .before .before .before .before .before))) (c .before .before .before .before .before .loop .inv .1))
 
 first-requires : tie.Need-first-requires Inv μ
 first-requires c κs = tt

@@ -1,4 +1,4 @@
--- `frames::marks::has_free_ordinary` meets its contract: run by run, what is left to find beside what is left to search. Assumes nothing.
+-- `frames::marks::has_free_ordinary` meets its contract: stretch by stretch, what is left to find beside what is left to search. Assumes nothing.
 use Prim.Native.Nat.{ℕ, _-_, _≤_, min}
 use native.Mathlib.Omega.{arith}
 use mathlib.Core.Path.{_≡_, sym, ap, _∙_}
@@ -10,16 +10,16 @@ use Rattle.search.specs.Search.{howMany}
 use Rattle.search.proofs.Counts.{many-zero}
 use Rattle.frames.specs.Areas.{mostAreas}
 use Rattle.frames.specs.Scans.{isFreeOrdinary}
-use Rattle.frames.specs.steps.Orders.{Ordered}
-use Rattle.frames.specs.steps.Runs.{inUse, Passed}
-use Rattle.frames.proofs.RunFacts.{run-left, eqb-zero}
+use Rattle.frames.specs.Orders.{inUse, Ordered}
+use Rattle.frames.specs.Walk.{Behind}
+use Rattle.frames.proofs.StretchFacts.{stretch-left, eqb-zero}
 use Rattle.frames.proofs.marks.has_free_ordinary.Statement.{statement}
 use Rattle.frames.proofs.marks.has_free_ordinary.Tie as tie
 
 abbrev Inv-loop : tie.InvT-loop
 Inv-loop marks base areas declared least len order left₀ i₀ next₀ left i next =
     (i ≤ len) × (leb least (howMany (isFreeOrdinary marks base areas (min declared mostAreas)) 0 len) ≡ leb left (howMany (isFreeOrdinary marks base areas (min declared mostAreas)) i (len - i))) ×
-    Ordered areas (inUse areas (min declared mostAreas)) order × (next ≤ inUse areas (min declared mostAreas)) × Passed base areas order len i next
+    Ordered areas (inUse areas (min declared mostAreas)) order × (next ≤ inUse areas (min declared mostAreas)) × Behind base areas order len i next
 
 abbrev μ-loop : tie.MeasureT-loop
 μ-loop marks base areas declared least len order left₀ i₀ next₀ left i next = len - i
@@ -42,20 +42,21 @@ returns-2 c =
     let rest = howMany (isFreeOrdinary (at .marks .now) (at .base) (at .areas .now) (min (at .declared) mostAreas)) (c .before .before .loop .i) _ in
     sym (c .before .before .loop .inv .1 ∙ le-leb _ rest (omega arith))
 
-next-run-requires : tie.Need-next-run-requires Inv-loop μ-loop
-next-run-requires c κs = search needs
+next-stretch-requires : tie.Need-next-stretch-requires Inv-loop μ-loop
+next-stretch-requires c κs = search needs
 
 less-free-requires : tie.Need-less-free-requires Inv-loop μ-loop
-less-free-requires c κs = (c .next-run .ensures .0 .ordered, c .next-run .ensures .0 .high)
+less-free-requires c κs = (c .next-stretch .ensures .0 .ordered, c .next-stretch .ensures .0 .high)
 
 loop-less : tie.Need-loop-less Inv-loop μ-loop
-loop-less c = omega (arith, c .before .next-run .ensures .0 .more, c .before .next-run .ensures .0 .high)
+loop-less c = omega (arith, c .before .next-stretch .ensures .0 .more, c .before .next-stretch .ensures .0 .high)
 
 loop-again : tie.Need-loop-again Inv-loop μ-loop
 loop-again c =
     let inv = c .before .before .before .before .loop .inv in
-    let walked = c .before .next-run .ensures .1 _ (inv .2) (inv .3) (inv .4) in
-    (walked .run .high, inv .1 ∙ run-left _ (walked .run) _ _ (c .less-free .ensures), inv .2, walked .next, walked .passed)
+    let within = c .before .next-stretch .ensures .0 in
+    let walked = c .before .next-stretch .ensures .1 _ (inv .2) (inv .3) (inv .4) in
+    (within .high, inv .1 ∙ stretch-left _ within (walked .stretch) _ _ (c .less-free .ensures), inv .2, walked .next, walked .passed)
 
 returns-3 : tie.Need-returns-3 Inv-loop μ-loop
 returns-3 c =
@@ -75,7 +76,7 @@ has-free-ordinary-spec =
     in-order-requires
     loop-holds
     returns-2
-    next-run-requires
+    next-stretch-requires
     less-free-requires
     loop-less
     loop-again
