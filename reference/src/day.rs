@@ -9,6 +9,8 @@ use crate::Request;
 
 /// The areas of the day: how many frames each has, and k.
 const AREAS: [(u64, u64); 3] = [(512, 2), (256, 0), (128, 0)];
+/// The first frame of the area that is fixed, where one is.
+const FIXED: u64 = 32;
 /// The longest grant that is asked for, where the area has so many frames.
 const LONGEST: u64 = 24;
 /// Pages come until this many frames are in use, then go until so few are.
@@ -23,7 +25,7 @@ struct Grant {
 
 struct Day {
     rng: Rng,
-    areas: Vec<(u64, u64)>,
+    areas: Vec<Request>,
     station: Station,
     out: Vec<u8>,
     /// Names of the live pages that are not pinned, and of those that are.
@@ -46,8 +48,8 @@ impl Day {
 
     fn open(&mut self) {
         self.make(Call::Boot { base: 16, frames: FRAMES as u64, order: 4, text: Vec::new() });
-        for (frames, order) in self.areas.clone() {
-            self.make(Call::Declare(Request { size: frames * PAGE, order, ..Request::default() }));
+        for request in self.areas.clone() {
+            self.make(Call::Declare(request));
         }
     }
 
@@ -106,7 +108,7 @@ impl Day {
 
     fn grant(&mut self) {
         let area = self.rng.below(self.areas.len() as u64);
-        let count = self.rng.within(1, LONGEST.min(self.areas[area as usize].0));
+        let count = self.rng.within(1, LONGEST.min(self.areas[area as usize].size / PAGE));
         let align = self.rng.pick(&[0, 0, 0, 2, 4]);
         let answer = self.make(Call::Grant { area, count, align });
         if answer.refusal == 0 {
@@ -157,15 +159,32 @@ impl Day {
 /// The records of a day of at least `calls` calls, from a fixed seed: boot,
 /// declares and the first puts are among them.
 pub fn records(seed: u64, calls: u64) -> Vec<u8> {
-    records_with(AREAS.to_vec(), seed, calls)
+    records_with(AREAS.map(area).to_vec(), seed, calls)
 }
 
 /// Those of such a day with sixty areas of 16 frames, k 0 and 1 by turns.
 pub fn records_of_many_areas(seed: u64, calls: u64) -> Vec<u8> {
-    records_with((0..60).map(|i| (16, i % 2)).collect(), seed, calls)
+    records_with(many_areas(), seed, calls)
 }
 
-fn records_with(areas: Vec<(u64, u64)>, seed: u64, calls: u64) -> Vec<u8> {
+/// The same with the first area fixed near the lowest frames, while the others
+/// go downwards from the highest.
+pub fn records_of_a_fixed_area(seed: u64, calls: u64) -> Vec<u8> {
+    let mut areas = many_areas();
+    areas[0].base = FIXED * PAGE;
+    areas[0].fixed = true;
+    records_with(areas, seed, calls)
+}
+
+fn many_areas() -> Vec<Request> {
+    (0..60).map(|i| area((16, i % 2))).collect()
+}
+
+fn area((frames, order): (u64, u64)) -> Request {
+    Request { size: frames * PAGE, order, ..Request::default() }
+}
+
+fn records_with(areas: Vec<Request>, seed: u64, calls: u64) -> Vec<u8> {
     let mut made = 1 + areas.len() as u64;
     let mut day = Day {
         rng: Rng::new(seed),
