@@ -1,6 +1,6 @@
 -- A walk over the stretches of ordinary places, beside a search or a count of the free ordinary places. Assumes nothing.
 --     stretch-hit, stretch-skip    the stretch's lowest free place; a stretch that has none
---     stretch-left             at least so many from `at` on: what the stretch leaves of that, after it
+--     stretch-left                 at least so many from `at` on: what the stretch leaves of that, after it
 use Prim.Native.Nat.{ℕ, _+_, _-_, _≤_, _<_}
 use native.Mathlib.Omega.{arith}
 use mathlib.Core.Path.{_≡_, sym, ap, _∙_}

@@ -69,9 +69,9 @@ module _ (base : Frame) (areas : List ℕ) (n : ℕ) (o : Order) (len : ℕ) (or
         (below-or-not (found .at) next (λ v. behind q (found .at) h l v) (λ v. rest (found .at) v (found .low))))
 
     pub underway-stop :
-        at < len → next < inUse areas n → from < nth next .base .0 - base .0 → (r : Stretch) → r .from .0 ≡ from → r .end .0 ≡ min (nth next .base .0 - base .0) len → r .next ≡ next
+        next < inUse areas n → from < nth next .base .0 - base .0 → (r : Stretch) → r .from .0 ≡ from → r .end .0 ≡ min (nth next .base .0 - base .0) len → r .next ≡ next
         → NextStretch base areas n o at len r
-    underway-stop some room start r e f k =
+    underway-stop room start r e f k =
         record {
           stretch = record {
             held = λ q a b. g .held q a (omega arith);
@@ -85,8 +85,8 @@ module _ (base : Frame) (areas : List ℕ) (n : ℕ) (o : Order) (len : ℕ) (or
           passed = λ p h. omega (arith, g .high, g .passed p (omega arith));
         }
 
-    pub underway-end : at < len → inUse areas n ≤ next → (r : Stretch) → r .from .0 ≡ from → r .end .0 ≡ len → r .next ≡ next → NextStretch base areas n o at len r
-    underway-end some all r e f k =
+    pub underway-end : inUse areas n ≤ next → (r : Stretch) → r .from .0 ≡ from → r .end .0 ≡ len → r .next ≡ next → NextStretch base areas n o at len r
+    underway-end all r e f k =
         record {
           stretch = record {
             held = λ q a b. g .held q a (omega arith);

@@ -18,7 +18,7 @@ use Rattle.frames.specs.declared.Area.{Area}
 use Rattle.frames.specs.Areas.{areaIn, endOf, areDisjoint}
 use Rattle.shape.specs.declared.Gap.{Gap}
 use Rattle.shape.specs.steps.Gaps.{liesIn, IsBeside, IsFree, PartBeside}
-use Rattle.shape.proofs.Disjoint.{ends-below, begins-above, one-ends}
+use Rattle.shape.proofs.Disjoint.{ends-below, begins-above}
 
 pub lies : (a : Area) (gap : Gap) → liesIn a gap ≡ true → (gap .from .0 ≤ a .base .0) × (endOf a ≤ gap .end .0)
 lies a gap e = (leb-true _ _ (and-left _ _ e), leb-true _ _ (and-right (leb (gap .from .0) (a .base .0)) _ e))

@@ -6,7 +6,7 @@ use Prim.Native.Nat.{ℕ, _+_, _-_, _*_, _%_, _^_}
 use native.Mathlib.Nat.{one-mul}
 use lib.Bits.{bitAnd, and-mask}
 use mathlib.Core.Bool.{true}
-use mathlib.Core.Path.{_≡_, sym, ap, _∙_}
+use mathlib.Core.Path.{_≡_, ap, _∙_}
 use lib.Pow.{pow-pos, shl-exact}
 use Rattle.search.proofs.Bools.{and-false-right}
 use Rattle.frames.specs.Areas.{endOf}

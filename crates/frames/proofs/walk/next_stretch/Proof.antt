@@ -49,7 +49,7 @@ returns c =
     let begins = ap (λ (p : Place). p .0) (c .before .before .before .before .place-of .ensures) ∙ ap (λ (a : Area). a .base .0 - x .base .0) (area-is (c .before .before .before .before .before)) in (
       record { low = g .0; ordered = omega (arith, g .1, c .before .if2 .taken); more = omega (arith, g .0, g .1, c .before .if2 .taken, c .before .before .before .before .before .before .before .before .before .before .before .pre); high = omega arith },
       λ n ord few passed.
-          underway-stop (x .base) (x .areas .now) n (x .order) (x .end .0) ord (x .at .0) (g .2 n ord few passed) (c .before .before .before .before .before .before .before .before .before .before .before .pre)
+          underway-stop (x .base) (x .areas .now) n (x .order) (x .end .0) ord (x .at .0) (g .2 n ord few passed)
           (omega (arith, ord .count, c .before .before .before .before .before .before .before .if1 .taken)) (omega (arith, begins, c .before .if2 .taken)) _ refl (ends ∙ ap (λ (s : ℕ). min s (x .end .0)) begins) refl,
     )
 
@@ -84,7 +84,7 @@ returns-2 c =
     let g = c .before .before .loop .inv in (
       record { low = g .0; ordered = g .1; more = c .before .before .before .before .pre; high = le-refl _ },
       λ n ord few passed.
-          underway-end (x .base) (x .areas .now) n (x .order) (x .end .0) ord (x .at .0) (g .2 n ord few passed) (c .before .before .before .before .pre) (omega (arith, ord .count, c .if1 .left)) _ refl refl refl,
+          underway-end (x .base) (x .areas .now) n (x .order) (x .end .0) ord (x .at .0) (g .2 n ord few passed) (omega (arith, ord .count, c .if1 .left)) _ refl refl refl,
     )
 
 pub next-stretch-spec : {M : Type 1} → statement M
