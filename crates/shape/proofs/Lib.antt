@@ -1,4 +1,3 @@
 pub mod Disjoint
 pub mod Gaps
 pub mod Returns
-pub mod Sums

@@ -4,11 +4,12 @@ ghost use Prim.Native.Nat.{_+_, _≤_, min, max};
 ghost use mathlib.Core.Path.{_≡_};
 ghost use mathlib.Core.Bool.{true};
 ghost use Rattle.search.specs.Search.{every};
-ghost use Rattle.frames.specs.Areas.{areaIn, areDisjoint};
+ghost use Rattle.frames.specs.Areas.{areaIn, endOf, areDisjoint};
 ghost use Rattle.frames.specs.Lent.{entering};
+ghost use Rattle.rules.specs.Limits.{mostEnd};
 ghost use Rattle.rules.specs.Shape.{memoryRight, areaRight, areaFits, shapeRight};
 ghost use Rattle.rules.specs.Does.{given};
-ghost use Rattle.shape.specs.steps.Gaps.{liesIn, IsFree, PartBeside};
+ghost use Rattle.shape.specs.steps.Gaps.{liesIn, IsFree, PartBeside, Tells};
 use frames::Area;
 use frames::Frame;
 use frames::area_at;
@@ -20,6 +21,12 @@ use rules::Record;
 struct Gap {
     from: Frame,
     end: Frame,
+}
+
+// What a look at one area tells: whether it is apart from those before it and, if it is, a gap that is free of it too.
+struct Look {
+    apart: bool,
+    gap: Gap,
 }
 
 // The first frame, the number of frames and the block order keep to their limits.
@@ -104,15 +111,13 @@ fn apart_from_lower(areas: &[u64], i: usize) -> bool
 
 // The area lies in the gap.
 fn lies_in(a: Area, gap: Gap) -> bool
+    requires { ⌜ endOf a ≤ mostEnd ⌝ }
     ensures { λ r. ⌜ r ≡ liesIn a gap ⌝ }
 {
     if a.base.0 < gap.from.0 {
         return false;
     }
-    if gap.end.0 < a.base.0 {
-        return false;
-    }
-    a.count <= gap.end.0 - a.base.0
+    a.base.0 + a.count <= gap.end.0
 }
 
 // The lower of two frames.
@@ -189,29 +194,28 @@ fn gap_around(areas: &[u64], i: usize, all: Gap) -> Gap
     gap
 }
 
-// An area shares no frame with an area before it, where a gap is free of those: one that lies in the gap is told at one look.
-fn apart_by_gap(areas: &[u64], i: usize, gap: Gap) -> bool
+// A look at area i, where a gap is free of those before it: if it lies there it is apart from them. Of the gap where it lies the larger part
+// that it leaves is kept.
+fn look_at(areas: &[u64], i: usize, a: Area, gap: Gap, all: Gap) -> Look
+    requires { ⌜ (a ≡ areaIn (now areas) i) × (endOf a ≤ mostEnd) ⌝ }
+    requires { ⌜ (liesIn a all ≡ true) × (1 ≤ a .count) ⌝ }
     requires { ⌜ IsFree (now areas) i gap ⌝ }
-    ensures { λ r. ⌜ r ≡ every (λ k. areDisjoint (areaIn (now (areas .entry)) k) (areaIn (now (areas .entry)) i)) 0 i ⌝ }
+    ensures { λ r. ⌜ Tells (now (areas .entry)) i r ⌝ }
 {
-    if lies_in(area_at(areas, i), gap) {
-        return true;
-    }
-    apart_from_lower(areas, i)
-}
-
-// A gap that is free of one area more, which is apart from those before it: the larger part that it leaves of the gap where it lies.
-fn next_gap(areas: &[u64], i: usize, gap: Gap, all: Gap) -> Gap
-    requires { ⌜ IsFree (now areas) i gap ⌝ }
-    requires { ⌜ (liesIn (areaIn (now areas) i) all ≡ true) × (1 ≤ areaIn (now areas) i .count) ⌝ }
-    requires { ⌜ every (λ k. areDisjoint (areaIn (now areas) k) (areaIn (now areas) i)) 0 i ≡ true ⌝ }
-    ensures { λ r. ⌜ IsFree (now (areas .entry)) (i + 1) r ⌝ }
-{
-    let a = area_at(areas, i);
     if lies_in(a, gap) {
-        return larger_part(a, gap);
+        return Look {
+            apart: true,
+            gap: larger_part(a, gap),
+        };
     }
-    larger_part(a, gap_around(areas, i, all))
+    if !apart_from_lower(areas, i) {
+        return Look { apart: false, gap };
+    }
+    let around = gap_around(areas, i, all);
+    Look {
+        apart: true,
+        gap: larger_part(a, around),
+    }
 }
 
 // Every declared area is right, and they are apart. Areas that follow one another upwards or downwards mostly lie in the gap that is kept,
@@ -229,13 +233,16 @@ fn areas_fit(memory: Memory, areas: &[u64]) -> bool
     let mut gap = all;
     let mut i = 0;
     while i < declared {
-        if !area_right(memory, area_at(areas, i)) {
+        let a = area_at(areas, i);
+        if !area_right(memory, a) {
             return false;
         }
-        if !apart_by_gap(areas, i, gap) {
+        let look = look_at(areas, i, a, gap, all);
+        if !look.apart {
             return false;
         }
-        gap = next_gap(areas, i, gap, all);
+        let left = look.gap;
+        gap = left;
         i += 1;
     }
     true

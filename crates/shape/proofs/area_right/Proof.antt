@@ -2,19 +2,24 @@
 -- Assumes nothing.
 use borrow.Author.Tests.{le-leb, lt-leb, eq-eqb, ne-eqb}
 use native.Mathlib.Omega.{arith}
-use Prim.Native.Nat.{ℕ, _+_, _-_, _*_, _%_, _^_}
+use Prim.Native.Nat.{ℕ, _+_, _-_, _*_, _%_, _^_, _≤_}
 use native.Mathlib.Nat.{one-mul}
 use lib.Bits.{bitAnd, and-mask}
+use lib.Dec.{leb}
 use mathlib.Core.Bool.{true}
-use mathlib.Core.Path.{_≡_, ap, _∙_}
+use mathlib.Core.Path.{_≡_, sym, ap, _∙_}
 use lib.Pow.{pow-pos, shl-exact}
-use Rattle.search.proofs.Bools.{and-false-right}
+use Rattle.search.proofs.Bools.{below-or-not, and-false-right}
 use Rattle.frames.specs.Areas.{endOf}
 use Rattle.rules.specs.Shape.{memoryRight, areaRight}
 use Rattle.rules.proofs.Shapes.{memory-known}
-use Rattle.shape.proofs.Sums.{leb-shift}
 use Rattle.shape.proofs.area_right.Statement.{statement}
 use Rattle.shape.proofs.area_right.Tie as tie
+
+-- a sum is at most a number just where a part of it is at most the rest
+leb-shift : (x y z : ℕ) → y ≤ z → leb x (z - y) ≡ leb (y + x) z
+leb-shift x y z h =
+    below-or-not (z - y) x (λ l. lt-leb x (z - y) l ∙ sym (lt-leb (y + x) z (omega arith))) (λ l. le-leb x (z - y) l ∙ sym (le-leb (y + x) z (omega arith)))
 
 -- one shifted by a block order is exact
 block : (base frames order : ℕ) → memoryRight base frames order ≡ true → 1 * 2 ^ order % 2 ^ 64 ≡ 2 ^ order

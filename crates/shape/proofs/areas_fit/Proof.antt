@@ -9,9 +9,10 @@ use mathlib.Core.Bool.{true, false}
 use Rattle.search.specs.Search.{every}
 use Rattle.search.proofs.Bools.{and-both, and-left-false, and-right-false}
 use Rattle.search.proofs.Ranges.{every-none, every-up, every-done, every-stops}
-use Rattle.frames.specs.Areas.{areaIn, areDisjoint}
+use Rattle.frames.specs.Areas.{areaIn, endOf, areDisjoint}
 use Rattle.rules.specs.declared.Record.{Record}
 use Rattle.rules.specs.Record.{areaAt}
+use Rattle.rules.specs.Limits.{mostEnd}
 use Rattle.rules.specs.Shape.{areaRight, areaFits}
 use Rattle.rules.specs.Does.{recordWith}
 use Rattle.rules.proofs.Shapes.{memory-known}
@@ -31,8 +32,8 @@ not-apart : (m : Record) (i : ℕ) → every (λ k. areDisjoint (areaAt m k) (ar
 unfolding areaFits
 not-apart m i e = and-right-false (areaRight (m .memory) (areaAt m i)) _ e
 
-add-t8 : tie.Need-add-t8 Inv-loop μ-loop
-add-t8 c = omega (arith, memory-known _ _ _ (c .before .before .before .before .pre) .end-high)
+add-t11 : tie.Need-add-t11 Inv-loop μ-loop
+add-t11 c = omega (arith, memory-known _ _ _ (c .before .before .before .before .pre) .end-high)
 
 loop-holds : tie.Need-loop-holds Inv-loop μ-loop
 loop-holds c = (omega arith, every-none _ 0, λ k l. absurd (omega arith))
@@ -49,22 +50,20 @@ returns c =
     let found = rw (c .before .before .area-at .ensures) at (c .before .area-right .ensures) in
     sym (every-stops _ (c .before .before .before .before .loop .i) _ (c .before .before .before .loop-test .taken) (and-left-false _ _ (sym found ∙ not-true _ (c .if1 .taken))))
 
-apart-by-gap-requires : tie.Need-apart-by-gap-requires Inv-loop μ-loop
-apart-by-gap-requires c κs = c .before .before .before .before .loop .inv .2
-
-returns-2 : tie.Need-returns-2 Inv-loop μ-loop
-returns-2 c = sym (every-stops _ (c .before .before .before .before .before .before .loop .i) _ (c .before .before .before .before .before .loop-test .taken) (not-apart _ _ (sym (c .before .apart-by-gap .ensures) ∙ not-true _ (c .if2 .taken))))
-
 -- the area is right
 is-right : (c : tie.Else1 Inv-loop μ-loop) → areaRight (c .before .before .before .before .before .before .before .before .before .args .memory) (areaIn (c .before .before .before .before .before .before .before .before .before .args .areas .now) (c .before .before .before .before .loop .i)) ≡ true
 is-right c = sym (rw (c .before .before .area-at .ensures) at (c .before .area-right .ensures)) ∙ not-false _ (c .if1 .left)
 
-next-gap-requires : tie.Need-next-gap-requires Inv-loop μ-loop
-next-gap-requires c κs =
-    let s = c .before .before .before .before .before .before .before .before .before .before .before in
-    let area = areaIn (s .args .areas .now) (c .before .before .before .before .before .before .loop .i) in
-    let facts = right-facts (recordWith (s .args .memory) (s .args .areas .now)) area (is-right (c .before .before)) in
-    (c .before .before .before .before .before .before .loop .inv .2, ((does-lie area _ (facts .low) (facts .high), facts .some), sym (c .before .apart-by-gap .ensures) ∙ not-false _ (c .if2 .left)))
+look-at-requires : tie.Need-look-at-requires Inv-loop μ-loop
+look-at-requires c κs =
+    let s = c .before .before .before .before .before .before .before .before .before in
+    let area = areaIn (s .args .areas .now) (c .before .before .before .before .loop .i) in
+    let facts = right-facts (recordWith (s .args .memory) (s .args .areas .now)) area (is-right c) in
+    let low : endOf area ≤ mostEnd = omega (arith, facts .high, memory-known _ _ _ (s .pre) .end-high) in
+    ((c .before .before .area-at .ensures, rw (c .before .before .area-at .ensures) low), (rw (c .before .before .area-at .ensures) (does-lie area _ (facts .low) (facts .high), facts .some), c .before .before .before .before .loop .inv .2))
+
+returns-2 : tie.Need-returns-2 Inv-loop μ-loop
+returns-2 c = sym (every-stops _ (c .before .before .before .before .before .before .before .loop .i) _ (c .before .before .before .before .before .before .loop-test .taken) (not-apart _ _ (sym (c .before .before .look-at .ensures .apart) ∙ not-true _ (c .if2 .taken))))
 
 add-i : tie.Need-add-i Inv-loop μ-loop
 add-i c = omega arith
@@ -76,8 +75,8 @@ loop-again : tie.Need-loop-again Inv-loop μ-loop
 unfolding areaFits
 loop-again c = (
   omega arith,
-  every-up _ (c .before .before .before .before .before .before .before .loop .i) (c .before .before .before .before .before .before .before .loop .inv .1) (and-both _ _ (is-right (c .before .before .before)) (sym (c .before .before .apart-by-gap .ensures) ∙ not-false _ (c .before .if2 .left))),
-  c .next-gap .ensures,
+  every-up _ (c .before .before .before .before .before .before .before .before .loop .i) (c .before .before .before .before .before .before .before .before .loop .inv .1) (and-both _ _ (is-right (c .before .before .before .before)) (sym (c .before .before .before .look-at .ensures .apart) ∙ not-false _ (c .before .if2 .left))),
+  c .before .before .before .look-at .ensures .free (not-false _ (c .before .if2 .left)),
 )
 
 returns-3 : tie.Need-returns-3 Inv-loop μ-loop
@@ -89,14 +88,13 @@ areas-fit-spec =
     (tie.spec
     Inv-loop
     μ-loop
-    add-t8
+    add-t11
     loop-holds
     area-at-requires
     area-right-requires
     returns
-    apart-by-gap-requires
+    look-at-requires
     returns-2
-    next-gap-requires
     add-i
     loop-less
     loop-again

@@ -1,12 +1,15 @@
 -- What the check that areas are apart keeps of those that it has passed: a gap between them.
-use Prim.Native.Nat.{ℕ, _≤_, _<_}
-use mathlib.Core.Bool.{Bool, _&&_}
+use Prim.Native.Nat.{ℕ, _+_, _≤_, _<_}
+use mathlib.Core.Path.{_≡_}
+use mathlib.Core.Bool.{Bool, true, _&&_}
 use mathlib.Core.Logic.{_⊎_}
 use mathlib.Core.List.{List}
 use lib.Dec.{leb}
 use Rattle.frames.specs.declared.Area.{Area}
-use Rattle.frames.specs.Areas.{areaIn, endOf}
+use Rattle.search.specs.Search.{every}
+use Rattle.frames.specs.Areas.{areaIn, endOf, areDisjoint}
 use Rattle.shape.specs.declared.Gap.{Gap}
+use Rattle.shape.specs.declared.Look.{Look}
 
 -- the area lies in the gap
 abbrev pub liesIn : Area → Gap → Bool
@@ -25,3 +28,8 @@ pub record PartBeside (a : Area) (gap r : Gap) : Type 0 where
   pub low : gap .from .0 ≤ r .from .0
   pub high : r .end .0 ≤ gap .end .0
   pub beside : IsBeside a r
+
+-- a look at area i tells whether it is apart from the areas before it and, where it is, a gap that is free of it too
+pub record Tells (areas : List ℕ) (i : ℕ) (r : Look) : Type 0 where
+  pub apart : r .apart ≡ every (λ k. areDisjoint (areaIn areas k) (areaIn areas i)) 0 i
+  pub free : r .apart ≡ true → IsFree areas (i + 1) (r .gap)

@@ -1,0 +1,56 @@
+-- `shape::look_at` meets its contract: in a gap that is free of the areas before it the area is apart from them, and what it leaves of a gap
+-- in which it lies, the one that was kept or the one around it, is free of all. Assumes nothing.
+use borrow.Author.Needs.{needs}
+use borrow.Author.Tests.{not-true, not-false}
+use mathlib.Core.Path.{sym, _∙_}
+use mathlib.Core.Bool.{true≢false}
+use Rattle.shape.proofs.Gaps.{in-free, part-free}
+use Rattle.shape.proofs.look_at.Statement.{statement}
+use Rattle.shape.proofs.look_at.Tie as tie
+
+lies-in-requires : tie.Need-lies-in-requires
+lies-in-requires c κs = c .before .pre .0 .1
+
+larger-part-requires : tie.Need-larger-part-requires
+larger-part-requires c κs = sym (c .before .lies-in .ensures) ∙ c .if1 .taken
+
+returns : tie.Need-returns
+returns c =
+    let s = c .before .before .before .before in
+    record {
+      apart = sym (in-free (s .args .areas .now) (s .args .i) (s .args .gap) (s .pre .1 .1) (rw (s .pre .0 .0) at (sym (c .before .before .lies-in .ensures) ∙ c .before .if1 .taken)));
+      free = λ _. part-free (s .args .areas .now) (s .args .i) (s .args .gap) (c .larger-part .result) (s .pre .1 .1) (rw (s .pre .0 .0) at (c .larger-part .ensures));
+    }
+
+apart-from-lower-requires : tie.Need-apart-from-lower-requires
+apart-from-lower-requires c κs = search needs
+
+returns-2 : tie.Need-returns-2
+returns-2 c = record { apart = sym (sym (c .before .apart-from-lower .ensures) ∙ not-true _ (c .if2 .taken)); free = λ e. absurd (true≢false (sym e)) }
+
+gap-around-requires : tie.Need-gap-around-requires
+gap-around-requires c κs = (rw (c .before .before .before .before .before .pre .0 .0) at (c .before .before .before .before .before .pre .1 .0), sym (c .before .apart-from-lower .ensures) ∙ not-false _ (c .if2 .left))
+
+larger-part-requires-2 : tie.Need-larger-part-requires-2
+larger-part-requires-2 c κs = rw (c .before .before .before .before .before .before .pre .0 .0) (c .gap-around .ensures .1)
+
+returns-3 : tie.Need-returns-3
+returns-3 c =
+    let s = c .before .before .before .before .before .before .before in
+    record {
+      apart = sym (sym (c .before .before .before .apart-from-lower .ensures) ∙ not-false _ (c .before .before .if2 .left));
+      free = λ _. part-free (s .args .areas .now) (s .args .i) (c .before .gap-around .result) (c .larger-part2 .result) (c .before .gap-around .ensures .0) (rw (s .pre .0 .0) at (c .larger-part2 .ensures));
+    }
+
+pub look-at-spec : {M : Type 1} → statement M
+look-at-spec =
+    tie.close
+    (tie.spec
+    lies-in-requires
+    larger-part-requires
+    returns
+    apart-from-lower-requires
+    returns-2
+    gap-around-requires
+    larger-part-requires-2
+    returns-3)
