@@ -9,7 +9,7 @@ ghost use Rattle.frames.specs.Lent.{entering};
 ghost use Rattle.rules.specs.Limits.{mostEnd};
 ghost use Rattle.rules.specs.Shape.{memoryRight, areaRight, areaFits, shapeRight};
 ghost use Rattle.rules.specs.Does.{given};
-ghost use Rattle.shape.specs.steps.Gaps.{liesIn, IsFree, PartBeside, Tells};
+ghost use Rattle.shape.specs.steps.Gaps.{liesIn, IsFree, PartBeside, Surrounds, Tells};
 use frames::Area;
 use frames::Frame;
 use frames::area_at;
@@ -94,21 +94,6 @@ fn area_right(memory: Memory, a: Area) -> bool
     a.count <= end - a.base.0
 }
 
-// An area shares no frame with an area before it.
-fn apart_from_lower(areas: &[u64], i: usize) -> bool
-    ensures { λ r. ⌜ r ≡ every (λ k. areDisjoint (areaIn (now (areas .entry)) k) (areaIn (now (areas .entry)) i)) 0 i ⌝ }
-{
-    let a = area_at(areas, i);
-    let mut k = 0;
-    while k < i {
-        if !apart(area_at(areas, k), a) {
-            return false;
-        }
-        k += 1;
-    }
-    true
-}
-
 // The area lies in the gap.
 fn lies_in(a: Area, gap: Gap) -> bool
     requires { ⌜ endOf a ≤ mostEnd ⌝ }
@@ -177,21 +162,23 @@ fn past_other(gap: Gap, a: Area, other: Area) -> Gap
     }
 }
 
-// What lies around an area that is apart from those before it: from one of them to the next, or to an end of all frames.
-fn gap_around(areas: &[u64], i: usize, all: Gap) -> Gap
-    requires { ⌜ (liesIn (areaIn (now areas) i) all ≡ true) × (1 ≤ areaIn (now areas) i .count) ⌝ }
-    requires { ⌜ every (λ k. areDisjoint (areaIn (now areas) k) (areaIn (now areas) i)) 0 i ≡ true ⌝ }
-    ensures { λ r. ⌜ IsFree (now (areas .entry)) i r ⌝ }
-    ensures { λ r. ⌜ liesIn (areaIn (now (areas .entry)) i) r ≡ true ⌝ }
+// A look at area i beside each of those before it: whether it is apart from them, and what lies around it then, from one of them to the next or
+// to an end of all frames.
+fn look_around(areas: &[u64], i: usize, a: Area, all: Gap) -> Look
+    requires { ⌜ (a ≡ areaIn (now areas) i) × (1 ≤ a .count) × (liesIn a all ≡ true) ⌝ }
+    ensures { λ r. ⌜ Surrounds (now (areas .entry)) i r ⌝ }
 {
-    let a = area_at(areas, i);
     let mut gap = all;
     let mut k = 0;
     while k < i {
-        gap = past_other(gap, a, area_at(areas, k));
+        let other = area_at(areas, k);
+        if !apart(other, a) {
+            return Look { apart: false, gap };
+        }
+        gap = past_other(gap, a, other);
         k += 1;
     }
-    gap
+    Look { apart: true, gap }
 }
 
 // A look at area i, where a gap is free of those before it: if it lies there it is apart from them. Of the gap where it lies the larger part
@@ -208,13 +195,14 @@ fn look_at(areas: &[u64], i: usize, a: Area, gap: Gap, all: Gap) -> Look
             gap: larger_part(a, gap),
         };
     }
-    if !apart_from_lower(areas, i) {
-        return Look { apart: false, gap };
+    let around = look_around(areas, i, a, all);
+    if !around.apart {
+        return around;
     }
-    let around = gap_around(areas, i, all);
+    let free = around.gap;
     Look {
         apart: true,
-        gap: larger_part(a, around),
+        gap: larger_part(a, free),
     }
 }
 

@@ -22,24 +22,23 @@ returns c =
       free = λ _. part-free (s .args .areas .now) (s .args .i) (s .args .gap) (c .larger-part .result) (s .pre .1 .1) (rw (s .pre .0 .0) at (c .larger-part .ensures));
     }
 
-apart-from-lower-requires : tie.Need-apart-from-lower-requires
-apart-from-lower-requires c κs = search needs
+look-around-requires : tie.Need-look-around-requires
+look-around-requires c κs = let s = c .before .before .before in (s .pre .0 .0, s .pre .1 .0 .1, s .pre .1 .0 .0)
 
 returns-2 : tie.Need-returns-2
-returns-2 c = record { apart = sym (sym (c .before .apart-from-lower .ensures) ∙ not-true _ (c .if2 .taken)); free = λ e. absurd (true≢false (sym e)) }
-
-gap-around-requires : tie.Need-gap-around-requires
-gap-around-requires c κs = (rw (c .before .before .before .before .before .pre .0 .0) at (c .before .before .before .before .before .pre .1 .0), sym (c .before .apart-from-lower .ensures) ∙ not-false _ (c .if2 .left))
+returns-2 c = record { apart = c .before .before .look-around .ensures .apart; free = λ e. absurd (true≢false (sym e ∙ not-true _ (c .if2 .taken))) }
 
 larger-part-requires-2 : tie.Need-larger-part-requires-2
-larger-part-requires-2 c κs = rw (c .before .before .before .before .before .before .pre .0 .0) (c .gap-around .ensures .1)
+larger-part-requires-2 c κs = rw (c .before .before .before .before .before .before .before .pre .0 .0) (c .before .before .before .look-around .ensures .lies (not-false _ (c .before .if2 .left)))
 
 returns-3 : tie.Need-returns-3
 returns-3 c =
-    let s = c .before .before .before .before .before .before .before in
+    let s = c .before .before .before .before .before .before .before .before in
+    let around = c .before .before .before .before .look-around in
+    let apart = not-false _ (c .before .before .if2 .left) in
     record {
-      apart = sym (sym (c .before .before .before .apart-from-lower .ensures) ∙ not-false _ (c .before .before .if2 .left));
-      free = λ _. part-free (s .args .areas .now) (s .args .i) (c .before .gap-around .result) (c .larger-part2 .result) (c .before .gap-around .ensures .0) (rw (s .pre .0 .0) at (c .larger-part2 .ensures));
+      apart = sym (sym (around .ensures .apart) ∙ apart);
+      free = λ _. part-free (s .args .areas .now) (s .args .i) (around .result .gap) (c .larger-part2 .result) (around .ensures .free apart) (rw (s .pre .0 .0) at (c .larger-part2 .ensures));
     }
 
 pub look-at-spec : {M : Type 1} → statement M
@@ -49,8 +48,7 @@ look-at-spec =
     lies-in-requires
     larger-part-requires
     returns
-    apart-from-lower-requires
+    look-around-requires
     returns-2
-    gap-around-requires
     larger-part-requires-2
     returns-3)

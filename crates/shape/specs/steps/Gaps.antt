@@ -29,6 +29,12 @@ pub record PartBeside (a : Area) (gap r : Gap) : Type 0 where
   pub high : r .end .0 ≤ gap .end .0
   pub beside : IsBeside a r
 
+-- area i is beside each area before it: whether it is apart from them and, where it is, a gap in which it lies and that is free of them
+pub record Surrounds (areas : List ℕ) (i : ℕ) (r : Look) : Type 0 where
+  pub apart : r .apart ≡ every (λ k. areDisjoint (areaIn areas k) (areaIn areas i)) 0 i
+  pub free : r .apart ≡ true → IsFree areas i (r .gap)
+  pub lies : r .apart ≡ true → liesIn (areaIn areas i) (r .gap) ≡ true
+
 -- a look at area i tells whether it is apart from the areas before it and, where it is, a gap that is free of it too
 pub record Tells (areas : List ℕ) (i : ℕ) (r : Look) : Type 0 where
   pub apart : r .apart ≡ every (λ k. areDisjoint (areaIn areas k) (areaIn areas i)) 0 i
