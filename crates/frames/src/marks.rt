@@ -324,8 +324,9 @@ pub fn find_free_ordinary(marks: &[u32], base: Frame, areas: &[u64], declared: u
     stretch.from
 }
 
-// The lowest free place from the stretch's first on that is in no area of the order, with the end of the ordinary places that it is among;
-// where that ends is left open, and only time rests on it. Of an order or a stretch that `frames` did not make for these areas nothing is said.
+// The lowest free place from the stretch's first on that is in no area of the order, with the end of the ordinary places that it is among. Where
+// that ends, and how many areas count as passed, is left open: only time rests on it. Of an order or a stretch that `frames` did not make for
+// these areas, this base and as many marks nothing is said.
 pub fn next_free(
     marks: &[u32],
     base: Frame,

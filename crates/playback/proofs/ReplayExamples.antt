@@ -21,4 +21,4 @@ use Rattle.playback.specs.ReplayExamples.{Examples}
 
 pub examples-hold : Examples
 unfolding lowestFrom lowest highestFrom some every howMany isClear changeBit changeBits inAreas firstWord fill isPowerOfTwo regionsFrom regions memoryRight lengthsRight areaRight areaFits shapeRight checked pageAt freeOrdinary freeInArea putAt putPage readPage isCandidate isGrantable chosen movers targets movePage moveOut takeRun grant alignmentFor baseFor sizeFor limitFor isVacant fitsAt highestFit declare declareAll bootRecord boot little bodies bodyOf sum numbers bodyLength bodyAt decodeAt decimalUpTo decimal labelled heading lineOf framesFor answerTo linesUpTo linesOf replayOutput
-examples-hold = record { printed = refl; empty = refl; notBooted = refl; cut = refl; unknown = refl; words96 = refl }
+examples-hold = record { printed = refl; empty = refl; notBooted = refl; cut = refl; unknown = refl; words96 = refl; frames2048 = refl }

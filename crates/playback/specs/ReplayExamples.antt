@@ -58,6 +58,10 @@ declare6144 = declareAny 0 0 128 1
 abbrev pub declare6145 : List ℕ
 declare6145 = declareAny 0 16 128 1
 
+-- a boot with as many frames as it holds
+abbrev pub bootLargest : List ℕ
+bootLargest = 0 ∷ 4 ∷ 0 ∷ 0 ∷ 0 ∷ 0 ∷ 0 ∷ 0 ∷ 0 ∷ 0 ∷ 8 ∷ 0 ∷ 0 ∷ 2 ∷ []
+
 pub record Examples : Type 0 where
   -- the whole output that document 01 prints
   pub printed : replayOutput (bootA ++ declareA ++ grant3 ++ putMovable7 ++ read7)
@@ -72,3 +76,5 @@ pub record Examples : Type 0 where
   pub unknown : replayOutput (bootA ++ (13 ∷ read7)) ≡ ascii "step refusal first second\n0 0 0 0\nbad 14\n"
   -- the program lends 96 bitmap words: an area that needs as many is refused as it has no place, and one that needs a word more for want of words
   pub words96 : replayOutput (bootOne ++ declare6144 ++ declare6145) ≡ ascii "step refusal first second\n0 0 0 0\n1 13 0 0\n2 14 0 0\nend 3\n"
+  -- 2,048 frames are held, and not one more
+  pub frames2048 : replayOutput (bootLargest ++ bootTooLarge) ≡ ascii "step refusal first second\n0 0 0 0\n1 1 0 0\nend 2\n"

@@ -61,6 +61,10 @@ part-choice : {A : Type 0} (P : A → Type 0) (b : Bool) (r q : Read A) → Part
 part-choice P true r q s t = s
 part-choice P false r q s t = t
 
+-- no more regions than a text may have
+abbrev pub Few : List Region → Type 0
+Few rs = length rs ≤ mostRegions
+
 module _ (s : List ℕ) where
   part-digits : (base at : ℕ) → Part Any (digits base s at)
   unfolding digits
@@ -109,9 +113,6 @@ module _ (s : List ℕ) where
       part-then Any Any (optional 47 alignment 0 s at₃) _ (part-optional 47 alignment at₃ (λ i. part-amount _ i))
       (λ to at₄ _. part-then Any Any (optional 58 allocator 0 s at₄) _ (part-optional 58 allocator at₄ part-allocator) (λ _ at₅ _. tt))))))
 
-  abbrev Few : List Region → Type 0
-  Few rs = length rs ≤ mostRegions
-
   part-from : (more : ℕ) (before : List Region) (at : ℕ) → length before + more ≤ mostRegions → Part Few (regionsFrom more before s at)
   unfolding regionsFrom
   part-from zero before at h = part-if Few (not (eqb at (length s))) 23 at (gives before at) (omega arith, λ e. omega arith) (omega arith)
@@ -146,7 +147,7 @@ refused-of (refuses number at) r e h = rw e
 pub answer-refused : (s : List ℕ) (r : Regions) → r ≡ resultOf (regions s) → (r .refusal ≡ 0 → ⊥) → regions s ≡ refuses (r .refusal) (r .place)
 answer-refused s r e h = refused-of (regions s) r e h
 
-given-of : (s : List ℕ) (x : Read (List Region)) (r : Regions) → regions s ≡ x → Sound (Few s) x → r ≡ resultOf x → r .refusal ≡ 0 → Given s r
+given-of : (s : List ℕ) (x : Read (List Region)) (r : Regions) → regions s ≡ x → Sound Few x → r ≡ resultOf x → r .refusal ≡ 0 → Given s r
 given-of s (gives rs at) r same few e h =
     let holds : held r ≡ rs = ap held e ∙ held-result rs in
     let size : r .count ≡ length rs = ap (λ (k : Regions). k .count) e in

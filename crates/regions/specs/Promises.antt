@@ -21,6 +21,6 @@ pub record Promises : Type 0 where
   pub notTooLong : (s : List ℕ) (at : ℕ) → length s ≤ 8192 → regions s ≢ refuses 24 at
   -- a text gives at most 64 regions
   pub atMost64 : (s : List ℕ) (rs : List Region) (end : ℕ) → regions s ≡ gives rs end → length rs ≤ 64
-  -- one of 64 regions is read, with a ; at its end; one byte after that ; is refused with 23, at that byte
+  -- one of 64 regions is read, with a ; at its end; any byte after that ; is refused with 23, at that byte
   pub read64 : resultOf (regions (manyRegions 64)) .count ≡ 64
-  pub byteAfter64 : regions (manyRegions 64 ++ (97 ∷ [])) ≡ refuses 23 320
+  pub byteAfter64 : (byte : ℕ) → regions (manyRegions 64 ++ (byte ∷ [])) ≡ refuses 23 320

@@ -120,11 +120,12 @@ fn first_used(marks: &[u32], from: Place, end: Place) -> Place
     end
 }
 
-// The first of the places in a row just before `at` that are not free; `at` where the one before it is free.
+// The first of the places in a row just before `at` that are not free; `at` where the one before it is free. That it is the first is left open,
+// since only time rests on it.
 fn used_since(marks: &[u32], at: Place) -> Place
     ensures { λ r. ⌜ UsedSince (now (marks .entry)) (at .0) (r .0) ⌝ }
 {
-    if marks.len() <= at.0 {
+    if marks.len() < at.0 {
         return at;
     }
     let mut i = at.0;

@@ -1,3 +1,3 @@
 pub mod Disjoint
-pub mod Gaps
+pub mod Rooms
 pub mod Returns

@@ -9,7 +9,7 @@ ghost use Rattle.frames.specs.Lent.{entering};
 ghost use Rattle.rules.specs.Limits.{mostEnd};
 ghost use Rattle.rules.specs.Shape.{memoryRight, areaRight, areaFits, shapeRight};
 ghost use Rattle.rules.specs.Does.{given};
-ghost use Rattle.shape.specs.steps.Gaps.{liesIn, IsFree, PartBeside, Surrounds, Tells};
+ghost use Rattle.shape.specs.steps.Rooms.{liesIn, IsFree, PartBeside, Surrounds, Tells};
 use frames::Area;
 use frames::Frame;
 use frames::area_at;
@@ -17,16 +17,16 @@ use frames::first_word;
 use rules::Memory;
 use rules::Record;
 
-// Frames in a row that no area looked at so far holds: the first, and the one after the last.
-struct Gap {
+// Room for areas: frames in a row that none passed so far holds, the first, and the one after the last.
+struct Room {
     from: Frame,
     end: Frame,
 }
 
-// What a look at one area tells: whether it is apart from those before it and, if it is, a gap that is free of it too.
-struct Look {
+// What is found of one area: whether it is apart from those before it and, if it is, a room that is free of it too.
+struct Judged {
     apart: bool,
-    gap: Gap,
+    room: Room,
 }
 
 // The first frame, the number of frames and the block order keep to their limits.
@@ -94,15 +94,15 @@ fn area_right(memory: Memory, a: Area) -> bool
     a.count <= end - a.base.0
 }
 
-// The area lies in the gap.
-fn lies_in(a: Area, gap: Gap) -> bool
+// The area lies in the room.
+fn lies_in(a: Area, room: Room) -> bool
     requires { ⌜ endOf a ≤ mostEnd ⌝ }
-    ensures { λ r. ⌜ r ≡ liesIn a gap ⌝ }
+    ensures { λ r. ⌜ r ≡ liesIn a room ⌝ }
 {
-    if a.base.0 < gap.from.0 {
+    if a.base.0 < room.from.0 {
         return false;
     }
-    a.base.0 + a.count <= gap.end.0
+    a.base.0 + a.count <= room.end.0
 }
 
 // The lower of two frames.
@@ -125,88 +125,88 @@ fn higher(a: Frame, b: Frame) -> Frame
     a
 }
 
-// The larger part that an area in a gap leaves of it, below the area or above.
-fn larger_part(a: Area, gap: Gap) -> Gap
-    requires { ⌜ liesIn a gap ≡ true ⌝ }
-    ensures { λ r. ⌜ PartBeside a gap r ⌝ }
+// The larger part that an area in a room leaves of it, below the area or above.
+fn larger_part(a: Area, room: Room) -> Room
+    requires { ⌜ liesIn a room ≡ true ⌝ }
+    ensures { λ r. ⌜ PartBeside a room r ⌝ }
 {
-    let from = gap.from;
+    let from = room.from;
     let first = a.base;
     let past = Frame(first.0 + a.count);
-    let end = gap.end;
+    let end = room.end;
     if end.0 - past.0 < first.0 - from.0 {
-        return Gap { from, end: first };
+        return Room { from, end: first };
     }
-    Gap { from: past, end }
+    Room { from: past, end }
 }
 
-// The part of a gap around an area in it that another, which is apart from that area, leaves.
-fn past_other(gap: Gap, a: Area, other: Area) -> Gap
-    requires { ⌜ (liesIn a gap ≡ true) × (1 ≤ a .count) ⌝ }
+// The part of a room around an area in it that another, which is apart from that area, leaves.
+fn past_other(room: Room, a: Area, other: Area) -> Room
+    requires { ⌜ (liesIn a room ≡ true) × (1 ≤ a .count) ⌝ }
     requires { ⌜ areDisjoint other a ≡ true ⌝ }
-    ensures { λ r. ⌜ PartBeside other gap r ⌝ }
+    ensures { λ r. ⌜ PartBeside other room r ⌝ }
     ensures { λ r. ⌜ liesIn a r ≡ true ⌝ }
 {
-    let from = gap.from;
-    let end = gap.end;
+    let from = room.from;
+    let end = room.end;
     if other.base.0 <= a.base.0 {
         let past = Frame(other.base.0 + other.count);
-        return Gap {
+        return Room {
             from: higher(from, past),
             end,
         };
     }
-    Gap {
+    Room {
         from,
         end: lower(end, other.base),
     }
 }
 
-// A look at area i beside each of those before it: whether it is apart from them, and what lies around it then, from one of them to the next or
+// Area i beside each of those before it: whether it is apart from them, and what lies around it then, from one of them to the next or
 // to an end of all frames.
-fn look_around(areas: &[u64], i: usize, a: Area, all: Gap) -> Look
+fn judge_around(areas: &[u64], i: usize, a: Area, all: Room) -> Judged
     requires { ⌜ (a ≡ areaIn (now areas) i) × (1 ≤ a .count) × (liesIn a all ≡ true) ⌝ }
     ensures { λ r. ⌜ Surrounds (now (areas .entry)) i r ⌝ }
 {
-    let mut gap = all;
+    let mut room = all;
     let mut k = 0;
     while k < i {
         let other = area_at(areas, k);
         if !apart(other, a) {
-            return Look { apart: false, gap };
+            return Judged { apart: false, room };
         }
-        gap = past_other(gap, a, other);
+        room = past_other(room, a, other);
         k += 1;
     }
-    Look { apart: true, gap }
+    Judged { apart: true, room }
 }
 
-// A look at area i, where a gap is free of those before it: if it lies there it is apart from them. Of the gap where it lies the larger part
+// Area i, where a room is free of those before it: if it lies there it is apart from them, at one look. Of the room where it lies the larger part
 // that it leaves is kept.
-fn look_at(areas: &[u64], i: usize, a: Area, gap: Gap, all: Gap) -> Look
+fn judge(areas: &[u64], i: usize, a: Area, room: Room, all: Room) -> Judged
     requires { ⌜ (a ≡ areaIn (now areas) i) × (endOf a ≤ mostEnd) ⌝ }
     requires { ⌜ (liesIn a all ≡ true) × (1 ≤ a .count) ⌝ }
-    requires { ⌜ IsFree (now areas) i gap ⌝ }
+    requires { ⌜ IsFree (now areas) i room ⌝ }
     ensures { λ r. ⌜ Tells (now (areas .entry)) i r ⌝ }
 {
-    if lies_in(a, gap) {
-        return Look {
+    if lies_in(a, room) {
+        return Judged {
             apart: true,
-            gap: larger_part(a, gap),
+            room: larger_part(a, room),
         };
     }
-    let around = look_around(areas, i, a, all);
+    let around = judge_around(areas, i, a, all);
     if !around.apart {
         return around;
     }
-    let free = around.gap;
-    Look {
+    let free = around.room;
+    Judged {
         apart: true,
-        gap: larger_part(a, free),
+        room: larger_part(a, free),
     }
 }
 
-// Every declared area is right, and they are apart. Areas that follow one another upwards or downwards mostly lie in the gap that is kept,
+// Every declared area is right, and they are apart. Areas that follow one another upwards or downwards mostly lie in the room that is kept,
 // also with a few others before or among them.
 fn areas_fit(memory: Memory, areas: &[u64]) -> bool
     requires { ⌜ memoryRight (memory .base .0) (memory .frames) (memory .«block_order») ≡ true ⌝ }
@@ -214,23 +214,23 @@ fn areas_fit(memory: Memory, areas: &[u64]) -> bool
 {
     let declared = memory.declared as usize;
     let base = memory.base;
-    let all = Gap {
+    let all = Room {
         from: base,
         end: Frame(base.0 + memory.frames),
     };
-    let mut gap = all;
+    let mut room = all;
     let mut i = 0;
     while i < declared {
         let a = area_at(areas, i);
         if !area_right(memory, a) {
             return false;
         }
-        let look = look_at(areas, i, a, gap, all);
-        if !look.apart {
+        let judged = judge(areas, i, a, room, all);
+        if !judged.apart {
             return false;
         }
-        let left = look.gap;
-        gap = left;
+        let left = judged.room;
+        room = left;
         i += 1;
     }
     true

@@ -1,4 +1,4 @@
--- `shape::areas_fit` meets its contract: the loop has found that each area below i fits, and keeps a gap that is free of them.
+-- `shape::areas_fit` meets its contract: the loop has found that each area below i fits, and keeps a room that is free of them.
 -- Assumes nothing.
 use borrow.Author.Needs.{needs}
 use borrow.Author.Tests.{not-true, not-false}
@@ -17,16 +17,16 @@ use Rattle.rules.specs.Shape.{areaRight, areaFits}
 use Rattle.rules.specs.Does.{recordWith}
 use Rattle.rules.proofs.Shapes.{memory-known}
 use Rattle.rules.proofs.AreaRight.{right-facts}
-use Rattle.shape.specs.steps.Gaps.{IsFree}
-use Rattle.shape.proofs.Gaps.{does-lie}
+use Rattle.shape.specs.steps.Rooms.{IsFree}
+use Rattle.shape.proofs.Rooms.{does-lie}
 use Rattle.shape.proofs.areas_fit.Statement.{statement}
 use Rattle.shape.proofs.areas_fit.Tie as tie
 
 abbrev Inv-loop : tie.InvT-loop
-Inv-loop memory areas declared all gap₀ i₀ gap i = (i ≤ declared) × (every (areaFits (recordWith memory areas)) 0 i ≡ true) × IsFree areas i gap
+Inv-loop memory areas declared all room₀ i₀ room i = (i ≤ declared) × (every (areaFits (recordWith memory areas)) 0 i ≡ true) × IsFree areas i room
 
 abbrev μ-loop : tie.MeasureT-loop
-μ-loop memory areas declared all gap₀ i₀ gap i = declared - i
+μ-loop memory areas declared all room₀ i₀ room i = declared - i
 
 not-apart : (m : Record) (i : ℕ) → every (λ k. areDisjoint (areaAt m k) (areaAt m i)) 0 i ≡ false → areaFits m i ≡ false
 unfolding areaFits
@@ -54,8 +54,8 @@ returns c =
 is-right : (c : tie.Else1 Inv-loop μ-loop) → areaRight (c .before .before .before .before .before .before .before .before .before .args .memory) (areaIn (c .before .before .before .before .before .before .before .before .before .args .areas .now) (c .before .before .before .before .loop .i)) ≡ true
 is-right c = sym (rw (c .before .before .area-at .ensures) at (c .before .area-right .ensures)) ∙ not-false _ (c .if1 .left)
 
-look-at-requires : tie.Need-look-at-requires Inv-loop μ-loop
-look-at-requires c κs =
+judge-requires : tie.Need-judge-requires Inv-loop μ-loop
+judge-requires c κs =
     let s = c .before .before .before .before .before .before .before .before .before in
     let area = areaIn (s .args .areas .now) (c .before .before .before .before .loop .i) in
     let facts = right-facts (recordWith (s .args .memory) (s .args .areas .now)) area (is-right c) in
@@ -63,7 +63,7 @@ look-at-requires c κs =
     ((c .before .before .area-at .ensures, rw (c .before .before .area-at .ensures) low), (rw (c .before .before .area-at .ensures) (does-lie area _ (facts .low) (facts .high), facts .some), c .before .before .before .before .loop .inv .2))
 
 returns-2 : tie.Need-returns-2 Inv-loop μ-loop
-returns-2 c = sym (every-stops _ (c .before .before .before .before .before .before .before .loop .i) _ (c .before .before .before .before .before .before .loop-test .taken) (not-apart _ _ (sym (c .before .before .look-at .ensures .apart) ∙ not-true _ (c .if2 .taken))))
+returns-2 c = sym (every-stops _ (c .before .before .before .before .before .before .before .loop .i) _ (c .before .before .before .before .before .before .loop-test .taken) (not-apart _ _ (sym (c .before .before .judge .ensures .apart) ∙ not-true _ (c .if2 .taken))))
 
 add-i : tie.Need-add-i Inv-loop μ-loop
 add-i c = omega arith
@@ -75,8 +75,8 @@ loop-again : tie.Need-loop-again Inv-loop μ-loop
 unfolding areaFits
 loop-again c = (
   omega arith,
-  every-up _ (c .before .before .before .before .before .before .before .before .loop .i) (c .before .before .before .before .before .before .before .before .loop .inv .1) (and-both _ _ (is-right (c .before .before .before .before)) (sym (c .before .before .before .look-at .ensures .apart) ∙ not-false _ (c .before .if2 .left))),
-  c .before .before .before .look-at .ensures .free (not-false _ (c .before .if2 .left)),
+  every-up _ (c .before .before .before .before .before .before .before .before .loop .i) (c .before .before .before .before .before .before .before .before .loop .inv .1) (and-both _ _ (is-right (c .before .before .before .before)) (sym (c .before .before .before .judge .ensures .apart) ∙ not-false _ (c .before .if2 .left))),
+  c .before .before .before .judge .ensures .free (not-false _ (c .before .if2 .left)),
 )
 
 returns-3 : tie.Need-returns-3 Inv-loop μ-loop
@@ -93,7 +93,7 @@ areas-fit-spec =
     area-at-requires
     area-right-requires
     returns
-    look-at-requires
+    judge-requires
     returns-2
     add-i
     loop-less

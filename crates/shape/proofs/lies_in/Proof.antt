@@ -5,13 +5,13 @@ use Rattle.shape.proofs.lies_in.Statement.{statement}
 use Rattle.shape.proofs.lies_in.Tie as tie
 
 returns : tie.Need-returns
-returns c = let x = c .before .before .before .args in simp (lt-leb (x .gap .from .0) (x .a .base .0) (omega arith))
+returns c = let x = c .before .before .before .args in simp (lt-leb (x .room .from .0) (x .a .base .0) (omega arith))
 
 add-result : tie.Need-add-result
 add-result c = omega (arith, c .before .before .before .before .pre)
 
 returns-2 : tie.Need-returns-2
-returns-2 c = let x = c .before .before .before .before .before .args in simp (le-leb (x .gap .from .0) (x .a .base .0) (omega arith))
+returns-2 c = let x = c .before .before .before .before .before .args in simp (le-leb (x .room .from .0) (x .a .base .0) (omega arith))
 
 pub lies-in-spec : {M : Type 1} → statement M
 lies-in-spec = tie.close (tie.spec returns add-result returns-2)

@@ -9,7 +9,7 @@ use mathlib.Core.Logic.{inl, inr, ⊎-elim}
 use Rattle.frames.specs.declared.Area.{Area}
 use Rattle.frames.specs.Areas.{endOf, areDisjoint}
 use Rattle.shape.proofs.Disjoint.{one-ends}
-use Rattle.shape.proofs.Gaps.{lies, does-lie}
+use Rattle.shape.proofs.Rooms.{lies, does-lie}
 use Rattle.shape.proofs.past_other.Statement.{statement}
 use Rattle.shape.proofs.past_other.Tie as tie
 
@@ -28,7 +28,7 @@ higher-requires c κs = search needs
 returns : tie.Need-returns
 returns c =
     let s = c .before .before .before .before .before .before .before in
-    let inside = lies (s .args .a) (s .args .gap) (s .pre .0 .0) in
+    let inside = lies (s .args .a) (s .args .room) (s .pre .0 .0) in
     let before = ends-before (s .args .other) (s .args .a) (s .pre .1) (s .pre .0 .1) (c .before .before .if1 .taken) in
     (record { low = omega arith; high = omega arith; beside = inl (omega arith) }, does-lie (s .args .a) _ (omega arith) (omega arith))
 
@@ -38,7 +38,7 @@ lower-requires c κs = search needs
 returns-2 : tie.Need-returns-2
 returns-2 c =
     let s = c .before .before .before .before .before .before in
-    let inside = lies (s .args .a) (s .args .gap) (s .pre .0 .0) in
+    let inside = lies (s .args .a) (s .args .room) (s .pre .0 .0) in
     let after = begins-after (s .args .other) (s .args .a) (s .pre .1) (omega arith) in
     (record { low = omega arith; high = omega arith; beside = inr (omega arith) }, does-lie (s .args .a) _ (omega arith) (omega arith))
 

@@ -1,4 +1,4 @@
--- `shape::look_around` meets its contract: the loop's gap holds the area, and is free of each area below k; so the area is apart from all of them
+-- `shape::judge_around` meets its contract: the loop's room holds the area, and is free of each area below k; so the area is apart from all of them
 -- where it comes to the end. Assumes nothing.
 use borrow.Author.Needs.{needs}
 use borrow.Author.Tests.{not-true, not-false}
@@ -8,16 +8,16 @@ use mathlib.Core.Path.{_≡_, sym, _∙_}
 use mathlib.Core.Bool.{true, true≢false}
 use Rattle.search.proofs.Ranges.{every-miss}
 use Rattle.frames.specs.Areas.{areaIn, areDisjoint}
-use Rattle.shape.specs.steps.Gaps.{liesIn, IsFree}
-use Rattle.shape.proofs.Gaps.{in-free, part-free}
-use Rattle.shape.proofs.look_around.Statement.{statement}
-use Rattle.shape.proofs.look_around.Tie as tie
+use Rattle.shape.specs.steps.Rooms.{liesIn, IsFree}
+use Rattle.shape.proofs.Rooms.{in-free, part-free}
+use Rattle.shape.proofs.judge_around.Statement.{statement}
+use Rattle.shape.proofs.judge_around.Tie as tie
 
 abbrev Inv-loop : tie.InvT-loop
-Inv-loop areas i a gap₀ k₀ gap k = (k ≤ i) × IsFree areas k gap × (liesIn a gap ≡ true)
+Inv-loop areas i a room₀ k₀ room k = (k ≤ i) × IsFree areas k room × (liesIn a room ≡ true)
 
 abbrev μ-loop : tie.MeasureT-loop
-μ-loop areas i a gap₀ k₀ gap k = i - k
+μ-loop areas i a room₀ k₀ room k = i - k
 
 loop-holds : tie.Need-loop-holds Inv-loop μ-loop
 loop-holds c = (omega arith, λ k l. absurd (omega arith), c .before .pre .2)
@@ -53,7 +53,7 @@ loop-less c = search needs
 loop-again : tie.Need-loop-again Inv-loop μ-loop
 loop-again c = (
   omega arith,
-  part-free (c .before .before .before .before .before .before .before .args .areas .now) (c .before .before .before .before .before .loop .k) (c .before .before .before .before .before .loop .gap) (c .past-other .result) (c .before .before .before .before .before .loop .inv .1) (rw (c .before .before .before .area-at .ensures) at (c .past-other .ensures .0)),
+  part-free (c .before .before .before .before .before .before .before .args .areas .now) (c .before .before .before .before .before .loop .k) (c .before .before .before .before .before .loop .room) (c .past-other .result) (c .before .before .before .before .before .loop .inv .1) (rw (c .before .before .before .area-at .ensures) at (c .past-other .ensures .0)),
   c .past-other .ensures .1,
 )
 
@@ -63,13 +63,13 @@ returns-2 c =
     let v = c .before .loop .inv in
     let inside = rw (s .pre .0) at (v .2) in
     record {
-      apart = sym (in-free (s .args .areas .now) (s .args .i) (c .before .loop .gap) (λ k l. v .1 k (omega arith)) inside);
+      apart = sym (in-free (s .args .areas .now) (s .args .i) (c .before .loop .room) (λ k l. v .1 k (omega arith)) inside);
       free = λ _ k l. v .1 k (omega arith);
       lies = λ _. inside;
     }
 
-pub look-around-spec : {M : Type 1} → statement M
-look-around-spec =
+pub judge-around-spec : {M : Type 1} → statement M
+judge-around-spec =
     tie.close
     (tie.spec
     Inv-loop
