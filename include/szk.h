@@ -5,7 +5,7 @@
  * those of documents 01 and 02, as far as 02 has landed; what is said here is a summary of them
  * for a caller.
  *
- * A machine is a record of SZK_RECORD_NUMBERS numbers and three tables, all of them the caller's.
+ * A machine is a record of SZK_RECORD_NUMBERS numbers and four tables, all of them the caller's.
  * Every call is lent the record, the tables and a place for its answer, each as a pointer and a
  * length in entries:
  *
@@ -13,6 +13,7 @@
  *   marks    a mark for each frame: 8 x field + kind
  *   words    a content word for each frame
  *   bitmap   the bitmap words of all areas, each area's after the previous area's last
+ *   owners   for each frame the device that owns it, 0 for none
  *   answer   where the answer goes: a refusal's number, or SZK_DONE, and two numbers
  *
  * Any numbers, any table contents and any lengths are taken; a refused call changes nothing but
@@ -29,10 +30,10 @@
  * answer answers 0, 0. Calls keep no state of their own, so calls on different machines may run
  * at the same time.
  *
- * The shape is right when P, n, b and the number of areas keep to the limits; marks and words have
- * n entries; each area has count at least 1, k at most b, first and count multiples of 2^b, and
- * lies in memory; areas are disjoint; the bitmap slice has at least the words needed. A frame in
- * no area is ordinary. When a name stands twice, the lowest frame is meant.
+ * The shape is right when P, n, b and the number of areas keep to the limits; marks, words and
+ * owners have n entries; each area has count at least 1, k at most b, first and count multiples of
+ * 2^b, and lies in memory; areas are disjoint; the bitmap slice has at least the words needed. A
+ * frame in no area is ordinary. When a name stands twice, the lowest frame is meant.
  */
 #ifndef SZK_H
 #define SZK_H
@@ -76,6 +77,8 @@ extern "C" {
 #define SZK_MOST_AREAS UINT64_C(64)
 #define SZK_LEAST_NAME UINT64_C(1)
 #define SZK_MOST_NAME UINT64_C(536870911)        /* 2^29 - 1 */
+#define SZK_LEAST_DEVICE UINT64_C(1)
+#define SZK_MOST_DEVICE UINT64_C(65535)
 #define SZK_MOST_ALIGN_ORDER UINT64_C(16)        /* of a grant */
 #define SZK_MOST_BYTES UINT64_C(281474976710656) /* an amount of bytes: 2^48 */
 #define SZK_MOST_TEXT UINT64_C(8192)             /* bytes of a regions text */
@@ -108,6 +111,7 @@ extern "C" {
 #define SZK_RANGE_NOT_FREE UINT64_C(12)    /* fixed range not free */
 #define SZK_NO_PLACE UINT64_C(13)          /* no place for the area */
 #define SZK_BITMAP_TOO_SHORT UINT64_C(14)  /* bitmap slice too short */
+#define SZK_NOT_OWNER UINT64_C(15)         /* the frame is not the device's own */
 #define SZK_UNEXPECTED_BYTE UINT64_C(20)   /* text: a byte, or the end, that cannot continue */
 #define SZK_BAD_AMOUNT UINT64_C(21)        /* text: above 2^48, size 0, or a wrong alignment */
 #define SZK_NAME_REPEATED UINT64_C(22)     /* text: at a repeated name */
@@ -120,14 +124,15 @@ extern "C" {
 /*
  * Boots a machine of `frames` frames from physical frame `base`, with blocks of 2^block_order
  * frames, and declares the text's regions in turn as if every frame were free. The record given is
- * ignored. All three tables become zero, spare bitmap words too, and unused area records are zero.
+ * ignored. All four tables become zero, spare bitmap words too, and unused area records are zero.
  *
  * A region is NAME=SIZE, then optionally @START, /ALIGNMENT and :ff, in that order; ';' stands
  * between regions, as in "camera=64K@32768;signer=1M". A nonzero start is fixed. Empty text is no
  * regions.
  *
  * Refused, with a place:
- *   SZK_WRONG_SHAPE (place 0) if base, frames, block_order or the length of marks or words is wrong;
+ *   SZK_WRONG_SHAPE (place 0) if base, frames, block_order or the length of marks, words or owners
+ *     is wrong;
  *   SZK_TEXT_TOO_LONG (place 8,192);
  *   SZK_UNEXPECTED_BYTE, SZK_BAD_AMOUNT, SZK_NAME_REPEATED, SZK_TOO_MANY_REGIONS or
  *     SZK_UNKNOWN_ALLOCATOR, whichever comes first from left to right, at its offset in the text;
@@ -135,7 +140,7 @@ extern "C" {
  */
 void szk_boot(uint64_t *record, size_t record_length, uint32_t *marks, size_t marks_length,
               uint64_t *words, size_t words_length, uint64_t *bitmap, size_t bitmap_length,
-              uint64_t *answer, size_t answer_length,
+              uint32_t *owners, size_t owners_length, uint64_t *answer, size_t answer_length,
               uint64_t base, uint64_t frames, uint64_t block_order,
               const uint8_t *text, size_t text_length);
 
@@ -163,7 +168,7 @@ void szk_boot(uint64_t *record, size_t record_length, uint32_t *marks, size_t ma
  */
 void szk_declare(uint64_t *record, size_t record_length, uint32_t *marks, size_t marks_length,
                  uint64_t *words, size_t words_length, uint64_t *bitmap, size_t bitmap_length,
-                 uint64_t *answer, size_t answer_length,
+                 uint32_t *owners, size_t owners_length, uint64_t *answer, size_t answer_length,
                  uint64_t base, uint64_t size, uint64_t limit, uint64_t alignment,
                  uint64_t order_per_bit, uint64_t fixed);
 
@@ -178,7 +183,8 @@ void szk_declare(uint64_t *record, size_t record_length, uint32_t *marks, size_t
  */
 void szk_put_movable(uint64_t *record, size_t record_length, uint32_t *marks, size_t marks_length,
                      uint64_t *words, size_t words_length, uint64_t *bitmap, size_t bitmap_length,
-                     uint64_t *answer, size_t answer_length, uint64_t name);
+                     uint32_t *owners, size_t owners_length, uint64_t *answer, size_t answer_length,
+                     uint64_t name);
 
 /*
  * Puts a fixed page on the lowest free ordinary frame, never on an area frame. Its word becomes 0.
@@ -188,7 +194,8 @@ void szk_put_movable(uint64_t *record, size_t record_length, uint32_t *marks, si
  */
 void szk_put_fixed(uint64_t *record, size_t record_length, uint32_t *marks, size_t marks_length,
                    uint64_t *words, size_t words_length, uint64_t *bitmap, size_t bitmap_length,
-                   uint64_t *answer, size_t answer_length, uint64_t name);
+                   uint32_t *owners, size_t owners_length, uint64_t *answer, size_t answer_length,
+                   uint64_t name);
 
 /*
  * Drops a page: its mark and word become 0.
@@ -197,7 +204,8 @@ void szk_put_fixed(uint64_t *record, size_t record_length, uint32_t *marks, size
  */
 void szk_drop(uint64_t *record, size_t record_length, uint32_t *marks, size_t marks_length,
               uint64_t *words, size_t words_length, uint64_t *bitmap, size_t bitmap_length,
-              uint64_t *answer, size_t answer_length, uint64_t name);
+              uint32_t *owners, size_t owners_length, uint64_t *answer, size_t answer_length,
+              uint64_t name);
 
 /*
  * Pins a movable page: it is neither moved, nor rewritten, nor dropped until it is unpinned.
@@ -206,7 +214,8 @@ void szk_drop(uint64_t *record, size_t record_length, uint32_t *marks, size_t ma
  */
 void szk_pin(uint64_t *record, size_t record_length, uint32_t *marks, size_t marks_length,
              uint64_t *words, size_t words_length, uint64_t *bitmap, size_t bitmap_length,
-             uint64_t *answer, size_t answer_length, uint64_t name);
+             uint32_t *owners, size_t owners_length, uint64_t *answer, size_t answer_length,
+             uint64_t name);
 
 /*
  * Makes a pinned page movable again.
@@ -215,7 +224,8 @@ void szk_pin(uint64_t *record, size_t record_length, uint32_t *marks, size_t mar
  */
 void szk_unpin(uint64_t *record, size_t record_length, uint32_t *marks, size_t marks_length,
                uint64_t *words, size_t words_length, uint64_t *bitmap, size_t bitmap_length,
-               uint64_t *answer, size_t answer_length, uint64_t name);
+               uint32_t *owners, size_t owners_length, uint64_t *answer, size_t answer_length,
+               uint64_t name);
 
 /*
  * Stores a page's word.
@@ -224,7 +234,8 @@ void szk_unpin(uint64_t *record, size_t record_length, uint32_t *marks, size_t m
  */
 void szk_store(uint64_t *record, size_t record_length, uint32_t *marks, size_t marks_length,
                uint64_t *words, size_t words_length, uint64_t *bitmap, size_t bitmap_length,
-               uint64_t *answer, size_t answer_length, uint64_t name, uint64_t word);
+               uint32_t *owners, size_t owners_length, uint64_t *answer, size_t answer_length,
+               uint64_t name, uint64_t word);
 
 /*
  * Reads a page. Answers frame, word.
@@ -233,57 +244,70 @@ void szk_store(uint64_t *record, size_t record_length, uint32_t *marks, size_t m
  */
 void szk_read(uint64_t *record, size_t record_length, uint32_t *marks, size_t marks_length,
               uint64_t *words, size_t words_length, uint64_t *bitmap, size_t bitmap_length,
-              uint64_t *answer, size_t answer_length, uint64_t name);
+              uint32_t *owners, size_t owners_length, uint64_t *answer, size_t answer_length,
+              uint64_t name);
 
 /* ---- device calls ---- */
 
 /*
- * Grants `count` contiguous frames of an area. A candidate starts on a bit, its physical frame is a
- * multiple of 2^align, its ceil(count / 2^k) bits lie in the area and are clear. It is grantable
- * when each of its count frames is free or movable. The lowest grantable candidate is taken. Its
- * movable pages, ascending, go to the lowest free ordinary frames, ascending, with mark and word.
- * Then the first mark is 8 x count + 4, the others 5, the words 0, the bits set. Frames after the
- * count in the last bit stay usable by movable pages. Answers frame, number of pages moved.
+ * Each names the device that makes it, last. A grant writes its device on its frames, a release
+ * writes 0 there and a boot on all; no other call changes owners.
+ */
+
+/*
+ * Grants `count` contiguous frames of an area to a device. A candidate starts on a bit, its physical
+ * frame is a multiple of 2^align, its ceil(count / 2^k) bits lie in the area and are clear. It is
+ * grantable when each of its count frames is free or movable. The lowest grantable candidate is
+ * taken. Its movable pages, ascending, go to the lowest free ordinary frames, ascending, with mark
+ * and word. Then the first mark is 8 x count + 4, the others 5, the words 0, the owners the device,
+ * the bits set. Frames after the count in the last bit stay usable by movable pages. Answers frame,
+ * number of pages moved.
  *
- * Refused: SZK_WRONG_SHAPE; SZK_OUT_OF_RANGE for an unknown area, count 0 or align above 16;
- * SZK_NO_RUN if there is no grantable candidate; SZK_NO_TARGET if the lowest one's movable pages
- * outnumber the free ordinary frames (no later candidate is tried).
+ * Refused: SZK_WRONG_SHAPE; SZK_OUT_OF_RANGE for an unknown area, count 0, align above 16 or a
+ * device not from 1 to 65,535; SZK_NO_RUN if there is no grantable candidate; SZK_NO_TARGET if the
+ * lowest one's movable pages outnumber the free ordinary frames (no later candidate is tried).
  */
 void szk_grant(uint64_t *record, size_t record_length, uint32_t *marks, size_t marks_length,
                uint64_t *words, size_t words_length, uint64_t *bitmap, size_t bitmap_length,
-               uint64_t *answer, size_t answer_length,
-               uint64_t area, uint64_t count, uint64_t align);
+               uint32_t *owners, size_t owners_length, uint64_t *answer, size_t answer_length,
+               uint64_t area, uint64_t count, uint64_t align, uint64_t device);
 
 /*
- * Releases the grant of `count` frames from physical frame `frame`: the frames' marks and words
- * become 0 and the grant's bits clear.
+ * Releases the grant of `count` frames from physical frame `frame`: the frames' marks, words and
+ * owners become 0 and the grant's bits clear.
  *
- * Refused: SZK_WRONG_SHAPE; SZK_OUT_OF_RANGE for an unknown area, count 0, or a range not inside
- * the area; SZK_NOT_LIVE if the frame is off a bit boundary or not of kind 4;
- * SZK_RELEASE_DISAGREES if its field is not count or a later frame of the range is not of kind 5.
+ * Refused: SZK_WRONG_SHAPE; SZK_OUT_OF_RANGE for an unknown area, count 0, a range not inside the
+ * area or a device not from 1 to 65,535; SZK_NOT_LIVE if the frame is off a bit boundary or not of
+ * kind 4; SZK_NOT_OWNER if the frame's owner is not the device; SZK_RELEASE_DISAGREES if its field
+ * is not count or a later frame of the range is not of kind 5.
  */
 void szk_release(uint64_t *record, size_t record_length, uint32_t *marks, size_t marks_length,
                  uint64_t *words, size_t words_length, uint64_t *bitmap, size_t bitmap_length,
-                 uint64_t *answer, size_t answer_length,
-                 uint64_t area, uint64_t frame, uint64_t count);
+                 uint32_t *owners, size_t owners_length, uint64_t *answer, size_t answer_length,
+                 uint64_t area, uint64_t frame, uint64_t count, uint64_t device);
 
 /*
  * Stores the word of a granted frame, by physical frame.
  *
- * Refused: SZK_WRONG_SHAPE; SZK_OUT_OF_RANGE outside memory; SZK_NOT_LIVE unless of kind 4 or 5.
+ * Refused: SZK_WRONG_SHAPE; SZK_OUT_OF_RANGE outside memory or for a device not from 1 to 65,535;
+ * SZK_NOT_LIVE unless of kind 4 or 5; SZK_NOT_OWNER if the frame's owner is not the device.
  */
 void szk_device_store(uint64_t *record, size_t record_length, uint32_t *marks, size_t marks_length,
                       uint64_t *words, size_t words_length, uint64_t *bitmap, size_t bitmap_length,
-                      uint64_t *answer, size_t answer_length, uint64_t frame, uint64_t word);
+                      uint32_t *owners, size_t owners_length,
+                      uint64_t *answer, size_t answer_length,
+                      uint64_t frame, uint64_t word, uint64_t device);
 
 /*
  * Reads the word of a granted frame, by physical frame. Answers word, 0.
  *
- * Refused: SZK_WRONG_SHAPE; SZK_OUT_OF_RANGE outside memory; SZK_NOT_LIVE unless of kind 4 or 5.
+ * Refused: SZK_WRONG_SHAPE; SZK_OUT_OF_RANGE outside memory or for a device not from 1 to 65,535;
+ * SZK_NOT_LIVE unless of kind 4 or 5; SZK_NOT_OWNER if the frame's owner is not the device.
  */
 void szk_device_read(uint64_t *record, size_t record_length, uint32_t *marks, size_t marks_length,
                      uint64_t *words, size_t words_length, uint64_t *bitmap, size_t bitmap_length,
-                     uint64_t *answer, size_t answer_length, uint64_t frame);
+                     uint32_t *owners, size_t owners_length, uint64_t *answer, size_t answer_length,
+                     uint64_t frame, uint64_t device);
 
 #ifdef __cplusplus
 }

@@ -1,6 +1,7 @@
 /*
- * A short day of one machine, through szk.h: boot, an area, a grant that makes a page move, and
- * what is refused. Prints a line for each call: its name, the refusal and the answer's numbers.
+ * A short day of one machine, through szk.h: boot, an area, two devices, a grant that makes a page
+ * move, and what is refused. Prints a line for each call: its name, the refusal and the answer's
+ * numbers.
  */
 #include "szk.h"
 
@@ -9,19 +10,23 @@
 
 enum { FRAMES = 32, BITMAP_WORDS = 1 };
 
+/* The devices, each with a number of its own. */
+enum { CAMERA = 1, SIGNER = 2 };
+
 /* A machine with its tables. All zeros is a fresh one. */
 struct station {
     uint64_t record[SZK_RECORD_NUMBERS];
     uint32_t marks[FRAMES];
     uint64_t words[FRAMES];
     uint64_t bitmap[BITMAP_WORDS];
+    uint32_t owners[FRAMES];
     uint64_t answer[SZK_ANSWER_NUMBERS];
 };
 
-/* The five slices that every call is lent. */
+/* The six slices that every call is lent. */
 #define LENT(s)                                                                           \
     (s)->record, SZK_RECORD_NUMBERS, (s)->marks, FRAMES, (s)->words, FRAMES, (s)->bitmap, \
-        BITMAP_WORDS, (s)->answer, SZK_ANSWER_NUMBERS
+        BITMAP_WORDS, (s)->owners, FRAMES, (s)->answer, SZK_ANSWER_NUMBERS
 
 static void print_answer(const char *call, const struct station *s)
 {
@@ -32,7 +37,7 @@ static void print_answer(const char *call, const struct station *s)
 /* P 4, n 32, b 2, and a fixed area of 16 frames from frame 8. */
 static void set_up(struct station *s)
 {
-    szk_read(NULL, 0, NULL, 0, NULL, 0, NULL, 0, s->answer, SZK_ANSWER_NUMBERS, 7);
+    szk_read(NULL, 0, NULL, 0, NULL, 0, NULL, 0, NULL, 0, s->answer, SZK_ANSWER_NUMBERS, 7);
     print_answer("nothing lent", s);
     szk_put_movable(LENT(s), 7);
     print_answer("put 7 before boot", s);
@@ -42,18 +47,27 @@ static void set_up(struct station *s)
     print_answer("declare", s);
 }
 
-static void use_device(struct station *s)
+/* The camera's buffer is the camera's alone. */
+static void use_devices(struct station *s)
 {
-    szk_grant(LENT(s), 0, 3, 0);
+    szk_grant(LENT(s), 0, 3, 0, CAMERA);
     print_answer("grant 3", s);
-    szk_device_store(LENT(s), 9, 1234);
+    szk_device_store(LENT(s), 9, 1234, CAMERA);
     print_answer("device store 9", s);
-    szk_device_read(LENT(s), 9);
+    szk_device_read(LENT(s), 9, CAMERA);
     print_answer("device read 9", s);
-    szk_release(LENT(s), 0, 8, 2);
+    szk_device_read(LENT(s), 9, SIGNER);
+    print_answer("read, signer", s);
+    szk_release(LENT(s), 0, 8, 3, SIGNER);
+    print_answer("release, signer", s);
+    szk_grant(LENT(s), 0, 1, 0, SZK_MOST_DEVICE + 1);
+    print_answer("grant, no device", s);
+    szk_release(LENT(s), 0, 8, 2, CAMERA);
     print_answer("release 2 of 3", s);
-    szk_release(LENT(s), 0, 8, 3);
+    szk_release(LENT(s), 0, 8, 3, CAMERA);
     print_answer("release 3", s);
+    szk_device_read(LENT(s), 9, CAMERA);
+    print_answer("read, released", s);
 }
 
 static void use_pages(struct station *s)
@@ -85,11 +99,11 @@ static void move_a_page(struct station *s)
     print_answer("put fixed 116", s);
     szk_put_movable(LENT(s), 8);
     print_answer("put 8", s);
-    szk_grant(LENT(s), 0, 16, 0);
+    szk_grant(LENT(s), 0, 16, 0, SIGNER);
     print_answer("grant 16", s);
     szk_drop(LENT(s), 110);
     print_answer("drop 110", s);
-    szk_grant(LENT(s), 0, 16, 0);
+    szk_grant(LENT(s), 0, 16, 0, SIGNER);
     print_answer("grant 16", s);
     szk_read(LENT(s), 8);
     print_answer("read 8", s);
@@ -101,7 +115,7 @@ int main(void)
 
     printf("%-18s %2s %5s %6s\n", "call", "no", "first", "second");
     set_up(&station);
-    use_device(&station);
+    use_devices(&station);
     use_pages(&station);
     move_a_page(&station);
     return 0;

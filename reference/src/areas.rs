@@ -180,6 +180,7 @@ impl Machine {
                 t.marks.fill(0);
                 t.words.fill(0);
                 t.bitmap.fill(0);
+                t.owners.fill(0);
                 Answer::new(refusal::DONE, 0, 0)
             }
             Err((number, place)) => Answer::new(number, place, 0),

@@ -14,10 +14,10 @@ pub enum Call {
     Unpin { name: u64 },
     Store { name: u64, word: u64 },
     Read { name: u64 },
-    Grant { area: u64, count: u64, align: u64 },
-    Release { area: u64, frame: u64, count: u64 },
-    DeviceStore { frame: u64, word: u64 },
-    DeviceRead { frame: u64 },
+    Grant { area: u64, count: u64, align: u64, device: u64 },
+    Release { area: u64, frame: u64, count: u64, device: u64 },
+    DeviceStore { frame: u64, word: u64, device: u64 },
+    DeviceRead { frame: u64, device: u64 },
     Declare(Request),
 }
 
@@ -53,10 +53,10 @@ pub fn apply(machine: &mut Machine, t: &mut Tables, call: &Call) -> Answer {
         Call::Unpin { name } => machine.unpin(t, *name),
         Call::Store { name, word } => machine.store(t, *name, *word),
         Call::Read { name } => machine.read(t, *name),
-        Call::Grant { area, count, align } => machine.grant(t, *area, *count, *align),
-        Call::Release { area, frame, count } => machine.release(t, *area, *frame, *count),
-        Call::DeviceStore { frame, word } => machine.device_store(t, *frame, *word),
-        Call::DeviceRead { frame } => machine.device_read(t, *frame),
+        Call::Grant { area, count, align, device } => machine.grant(t, *area, *count, *align, *device),
+        Call::Release { area, frame, count, device } => machine.release(t, *area, *frame, *count, *device),
+        Call::DeviceStore { frame, word, device } => machine.device_store(t, *frame, *word, *device),
+        Call::DeviceRead { frame, device } => machine.device_read(t, *frame, *device),
         Call::Declare(request) => machine.declare(t, request),
     }
 }
@@ -68,6 +68,7 @@ pub struct State {
     pub marks: Vec<u32>,
     pub words: Vec<u64>,
     pub bitmap: Vec<u64>,
+    pub owners: Vec<u32>,
 }
 
 impl State {
@@ -78,6 +79,7 @@ impl State {
             marks: vec![0; frames],
             words: vec![0; frames],
             bitmap: vec![0; bitmap_words],
+            owners: vec![0; frames],
         }
     }
 
@@ -86,6 +88,7 @@ impl State {
             marks: &mut self.marks,
             words: &mut self.words,
             bitmap: &mut self.bitmap,
+            owners: &mut self.owners,
         };
         apply(&mut self.machine, &mut t, call)
     }
@@ -95,6 +98,7 @@ impl State {
             marks: &mut self.marks,
             words: &mut self.words,
             bitmap: &mut self.bitmap,
+            owners: &mut self.owners,
         };
         self.machine.shape_is_right(&t)
     }

@@ -16,11 +16,14 @@ const LONGEST: u64 = 24;
 /// Pages come until this many frames are in use, then go until so few are.
 const FULLEST: u64 = 2_010;
 const EMPTIEST: u64 = 1_800;
+/// The devices of the day are numbered from 1 to this; each asks in every area.
+const DEVICES: u64 = 5;
 
 struct Grant {
     area: u64,
     frame: u64,
     count: u64,
+    device: u64,
 }
 
 struct Day {
@@ -33,6 +36,8 @@ struct Day {
     pinned: Vec<u64>,
     grants: Vec<Grant>,
     last_name: u64,
+    /// How many grants were asked for.
+    asked: u64,
     filling: bool,
 }
 
@@ -106,13 +111,20 @@ impl Day {
         }
     }
 
+    /// The devices ask by turns, so that no chance is drawn for them.
+    fn next_device(&mut self) -> u64 {
+        self.asked += 1;
+        1 + self.asked % DEVICES
+    }
+
     fn grant(&mut self) {
         let area = self.rng.below(self.areas.len() as u64);
         let count = self.rng.within(1, LONGEST.min(self.areas[area as usize].size / PAGE));
         let align = self.rng.pick(&[0, 0, 0, 2, 4]);
-        let answer = self.make(Call::Grant { area, count, align });
+        let device = self.next_device();
+        let answer = self.make(Call::Grant { area, count, align, device });
         if answer.refusal == 0 {
-            self.grants.push(Grant { area, frame: answer.first, count });
+            self.grants.push(Grant { area, frame: answer.first, count, device });
         }
     }
 
@@ -121,18 +133,19 @@ impl Day {
             return self.grant();
         }
         let at = self.rng.below(self.grants.len() as u64) as usize;
-        let Grant { area, frame, count } = self.grants.swap_remove(at);
-        self.make(Call::Release { area, frame, count });
+        let Grant { area, frame, count, device } = self.grants.swap_remove(at);
+        self.make(Call::Release { area, frame, count, device });
     }
 
     fn device_word(&mut self) {
         let Some(grant) = self.grants.last() else {
             return self.grant();
         };
+        let device = grant.device;
         let frame = grant.frame + self.rng.below(grant.count);
         let call = match self.rng.percent(50) {
-            true => Call::DeviceStore { frame, word: self.rng.next() },
-            false => Call::DeviceRead { frame },
+            true => Call::DeviceStore { frame, word: self.rng.next(), device },
+            false => Call::DeviceRead { frame, device },
         };
         self.make(call);
     }
@@ -195,6 +208,7 @@ fn records_with(areas: Vec<Request>, seed: u64, calls: u64) -> Vec<u8> {
         pinned: Vec::new(),
         grants: Vec::new(),
         last_name: 0,
+        asked: 0,
         filling: true,
     };
     day.open();

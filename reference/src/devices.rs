@@ -4,50 +4,65 @@ use crate::machine::{answer, field_of, kind, kind_of, mark_of, refusal, Outcome}
 use crate::machine::{Answer, Machine, Tables};
 use std::ops::Range;
 
+fn is_device(device: u64) -> bool {
+    (1..=Machine::MAX_DEVICE).contains(&device)
+}
+
+/// 15: the frame at a place is another device's, or no device's.
+fn check_owner(t: &Tables, place: usize, device: u64) -> Result<(), u64> {
+    if u64::from(t.owners[place]) == device {
+        Ok(())
+    } else {
+        Err(refusal::NOT_OWNER)
+    }
+}
+
 impl Machine {
-    /// Grants `count` frames of an area, first frame a multiple of 2^`align`.
-    pub fn grant(&self, t: &mut Tables, area: u64, count: u64, align: u64) -> Answer {
-        answer(self.try_grant(t, area, count, align))
+    /// Grants `count` frames of an area to a device, first frame a multiple of
+    /// 2^`align`.
+    pub fn grant(&self, t: &mut Tables, area: u64, count: u64, align: u64, device: u64) -> Answer {
+        answer(self.try_grant(t, area, count, align, device))
     }
 
-    pub fn release(&self, t: &mut Tables, area: u64, frame: u64, count: u64) -> Answer {
-        answer(self.try_release(t, area, frame, count))
+    pub fn release(&self, t: &mut Tables, area: u64, frame: u64, count: u64, device: u64) -> Answer {
+        answer(self.try_release(t, area, frame, count, device))
     }
 
-    pub fn device_store(&self, t: &mut Tables, frame: u64, word: u64) -> Answer {
-        answer(self.granted_place(t, frame).map(|place| {
+    pub fn device_store(&self, t: &mut Tables, frame: u64, word: u64, device: u64) -> Answer {
+        answer(self.owned_place(t, frame, device).map(|place| {
             t.words[place] = word;
             (0, 0)
         }))
     }
 
-    pub fn device_read(&self, t: &mut Tables, frame: u64) -> Answer {
-        answer(self.granted_place(t, frame).map(|place| (t.words[place], 0)))
+    pub fn device_read(&self, t: &mut Tables, frame: u64, device: u64) -> Answer {
+        answer(self.owned_place(t, frame, device).map(|place| (t.words[place], 0)))
     }
 
-    /// The checks of both device word calls: 1, 2, 3.
-    fn granted_place(&self, t: &Tables, frame: u64) -> Result<usize, u64> {
+    /// The checks of both device word calls: 1, 2, 3, 15.
+    fn owned_place(&self, t: &Tables, frame: u64, device: u64) -> Result<usize, u64> {
         self.check_shape(t)?;
-        if frame < self.base || frame >= self.end() {
+        if frame < self.base || frame >= self.end() || !is_device(device) {
             return Err(refusal::ARGUMENT);
         }
         let place = self.place(frame);
-        match kind_of(t.marks[place]) {
-            kind::GRANT_FIRST | kind::GRANT_LATER => Ok(place),
-            _ => Err(refusal::NOTHING_THERE),
+        if !matches!(kind_of(t.marks[place]), kind::GRANT_FIRST | kind::GRANT_LATER) {
+            return Err(refusal::NOTHING_THERE);
         }
+        check_owner(t, place, device)?;
+        Ok(place)
     }
 
-    fn try_grant(&self, t: &mut Tables, area: u64, count: u64, align: u64) -> Outcome {
+    fn try_grant(&self, t: &mut Tables, area: u64, count: u64, align: u64, device: u64) -> Outcome {
         self.check_shape(t)?;
-        if area >= self.declared || count == 0 || align > Machine::MAX_ALIGN_ORDER {
+        if area >= self.declared || count == 0 || align > Machine::MAX_ALIGN_ORDER || !is_device(device) {
             return Err(refusal::ARGUMENT);
         }
         let area = area as usize;
         let bit = self.first_run(t, area, count, align).ok_or(refusal::NO_RUN)?;
         let run = self.run_places(area, bit, count);
         let moved = self.move_out(t, run.clone())?;
-        self.write_grant(t, run.clone(), count);
+        self.write_grant(t, run.clone(), count, device);
         self.write_bits(t, area, bit, count, true);
         Ok((self.frame(run.start), moved))
     }
@@ -102,10 +117,12 @@ impl Machine {
         Ok(from.len() as u64)
     }
 
-    fn write_grant(&self, t: &mut Tables, run: Range<usize>, count: u64) {
+    /// The device fits: it is at most 65,535 here.
+    fn write_grant(&self, t: &mut Tables, run: Range<usize>, count: u64, device: u64) {
         t.marks[run.clone()].fill(mark_of(0, kind::GRANT_LATER));
         t.marks[run.start] = mark_of(count, kind::GRANT_FIRST);
-        t.words[run].fill(0);
+        t.words[run.clone()].fill(0);
+        t.owners[run].fill(device as u32);
     }
 
     fn write_bits(&self, t: &mut Tables, area: usize, bit: u64, count: u64, set: bool) {
@@ -114,17 +131,18 @@ impl Machine {
         }
     }
 
-    fn try_release(&self, t: &mut Tables, area: u64, frame: u64, count: u64) -> Outcome {
+    fn try_release(&self, t: &mut Tables, area: u64, frame: u64, count: u64, device: u64) -> Outcome {
         self.check_shape(t)?;
-        if area >= self.declared || count == 0 || !self.range_in_area(area, frame, count) {
+        if area >= self.declared || count == 0 || !self.range_in_area(area, frame, count) || !is_device(device) {
             return Err(refusal::ARGUMENT);
         }
         let area = area as usize;
-        self.check_granted_run(t, area, frame, count)?;
+        self.check_granted_run(t, area, frame, count, device)?;
         let bit = (frame - self.areas[area].base) >> self.areas[area].order;
         let run = self.run_places(area, bit, count);
         t.marks[run.clone()].fill(0);
-        t.words[run].fill(0);
+        t.words[run.clone()].fill(0);
+        t.owners[run].fill(0);
         self.write_bits(t, area, bit, count, false);
         Ok((0, 0))
     }
@@ -134,14 +152,16 @@ impl Machine {
         area.holds(frame) && count <= area.end() - frame
     }
 
-    /// 3 and 9 of release, for a range inside the area.
-    fn check_granted_run(&self, t: &Tables, area: usize, frame: u64, count: u64) -> Result<(), u64> {
+    /// 3, 15 and 9 of release, for a range inside the area. The frame named is
+    /// its first; who owns the later ones is not asked.
+    fn check_granted_run(&self, t: &Tables, area: usize, frame: u64, count: u64, device: u64) -> Result<(), u64> {
         let offset = frame - self.areas[area].base;
         let first = self.place(frame);
         let mark = t.marks[first];
         if offset % (1 << self.areas[area].order) != 0 || kind_of(mark) != kind::GRANT_FIRST {
             return Err(refusal::NOTHING_THERE);
         }
+        check_owner(t, first, device)?;
         let later = &t.marks[first + 1..first + count as usize];
         if field_of(mark) != count || later.iter().any(|&m| kind_of(m) != kind::GRANT_LATER) {
             return Err(refusal::RELEASE);

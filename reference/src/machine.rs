@@ -4,7 +4,7 @@
 pub const PAGE: u64 = 4096;
 
 /// Refusal numbers, as document 01 lists them. 11 is a k above b or, by
-/// document 02, a limit that cannot be kept.
+/// document 02, a limit that cannot be kept; 15 is document 02's.
 pub mod refusal {
     pub const DONE: u64 = 0;
     pub const SHAPE: u64 = 1;
@@ -21,6 +21,7 @@ pub mod refusal {
     pub const NOT_FREE: u64 = 12;
     pub const NO_PLACE: u64 = 13;
     pub const BITMAP: u64 = 14;
+    pub const NOT_OWNER: u64 = 15;
     pub const TEXT_BYTE: u64 = 20;
     pub const TEXT_NUMBER: u64 = 21;
     pub const TEXT_REPEATED: u64 = 22;
@@ -124,11 +125,12 @@ pub struct Machine {
     pub areas: [Area; Machine::MAX_AREAS as usize],
 }
 
-/// The three tables lent to a call.
+/// The four tables lent to a call. An owner is a device's number, 0 for none.
 pub struct Tables<'a> {
     pub marks: &'a mut [u32],
     pub words: &'a mut [u64],
     pub bitmap: &'a mut [u64],
+    pub owners: &'a mut [u32],
 }
 
 impl Machine {
@@ -139,6 +141,7 @@ impl Machine {
     pub const MAX_NAME: u64 = 536_870_911;
     pub const MAX_ALIGN_ORDER: u64 = 16;
     pub const MAX_AMOUNT: u64 = 1 << 48;
+    pub const MAX_DEVICE: u64 = 65_535;
 
     /// A fresh record is all zeros.
     pub fn fresh() -> Machine {
@@ -165,9 +168,9 @@ impl Machine {
             && self.base <= Self::MAX_END - self.frames
     }
 
-    /// Marks and words have n entries each.
+    /// Marks, words and owners have n entries each.
     pub fn lengths_are_right(&self, t: &Tables) -> bool {
-        t.marks.len() as u64 == self.frames && t.words.len() as u64 == self.frames
+        [t.marks.len(), t.words.len(), t.owners.len()].iter().all(|&length| length as u64 == self.frames)
     }
 
     /// Each declared area alone is right. Asked after the numbers.

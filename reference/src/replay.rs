@@ -20,10 +20,10 @@ pub fn body_length(kind: u8) -> Option<usize> {
         0 => Some(13),
         1..=5 | 7 => Some(4),
         6 => Some(12),
-        8 => Some(6),
-        9 => Some(13),
-        10 => Some(16),
-        11 => Some(8),
+        8 => Some(8),
+        9 => Some(15),
+        10 => Some(18),
+        11 => Some(10),
         12 => Some(34),
         _ => None,
     }
@@ -56,10 +56,10 @@ pub fn decode(kind: u8, body: &[u8]) -> Option<Call> {
         5 => Call::Unpin { name: b.take(4) },
         6 => Call::Store { name: b.take(4), word: b.take(8) },
         7 => Call::Read { name: b.take(4) },
-        8 => Call::Grant { area: b.take(1), align: b.take(1), count: b.take(4) },
-        9 => Call::Release { area: b.take(1), frame: b.take(8), count: b.take(4) },
-        10 => Call::DeviceStore { frame: b.take(8), word: b.take(8) },
-        11 => Call::DeviceRead { frame: b.take(8) },
+        8 => Call::Grant { area: b.take(1), align: b.take(1), count: b.take(4), device: b.take(2) },
+        9 => Call::Release { area: b.take(1), frame: b.take(8), count: b.take(4), device: b.take(2) },
+        10 => Call::DeviceStore { frame: b.take(8), word: b.take(8), device: b.take(2) },
+        11 => Call::DeviceRead { frame: b.take(8), device: b.take(2) },
         _ => Call::Declare(Request {
             base: b.take(8),
             size: b.take(8),
@@ -82,10 +82,10 @@ fn fields(call: &Call) -> Vec<(u64, usize)> {
         | Call::Unpin { name }
         | Call::Read { name } => vec![(*name, 4)],
         Call::Store { name, word } => vec![(*name, 4), (*word, 8)],
-        Call::Grant { area, count, align } => vec![(*area, 1), (*align, 1), (*count, 4)],
-        Call::Release { area, frame, count } => vec![(*area, 1), (*frame, 8), (*count, 4)],
-        Call::DeviceStore { frame, word } => vec![(*frame, 8), (*word, 8)],
-        Call::DeviceRead { frame } => vec![(*frame, 8)],
+        Call::Grant { area, count, align, device } => vec![(*area, 1), (*align, 1), (*count, 4), (*device, 2)],
+        Call::Release { area, frame, count, device } => vec![(*area, 1), (*frame, 8), (*count, 4), (*device, 2)],
+        Call::DeviceStore { frame, word, device } => vec![(*frame, 8), (*word, 8), (*device, 2)],
+        Call::DeviceRead { frame, device } => vec![(*frame, 8), (*device, 2)],
         Call::Declare(r) => vec![
             (r.base, 8),
             (r.size, 8),
@@ -113,6 +113,7 @@ pub struct Station {
     marks: Vec<u32>,
     words: Vec<u64>,
     bitmap: Vec<u64>,
+    owners: Vec<u32>,
 }
 
 impl Station {
@@ -122,6 +123,7 @@ impl Station {
             marks: vec![0; FRAMES],
             words: vec![0; FRAMES],
             bitmap: vec![0; BITMAP_WORDS],
+            owners: vec![0; FRAMES],
         }
     }
 
@@ -133,6 +135,7 @@ impl Station {
             marks: self.marks[..frames].to_vec(),
             words: self.words[..frames].to_vec(),
             bitmap: self.bitmap.clone(),
+            owners: self.owners[..frames].to_vec(),
         }
     }
 
@@ -150,6 +153,7 @@ impl Station {
             marks: &mut self.marks[..frames as usize],
             words: &mut self.words[..frames as usize],
             bitmap: &mut self.bitmap,
+            owners: &mut self.owners[..frames as usize],
         };
         apply(&mut self.machine, &mut t, call)
     }

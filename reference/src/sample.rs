@@ -187,7 +187,26 @@ fn some_bitmap_word(rng: &mut Rng, style: u64) -> u64 {
     }
 }
 
-/// Writes one run that looks granted, sometimes without its bits.
+/// One owner, in one of several styles of table: none, a few devices where a
+/// mark is granted or anywhere, any number, numbers around those of devices.
+fn some_owner(rng: &mut Rng, style: u64, mark: u32) -> u32 {
+    let is_granted = matches!(kind_of(mark), kind::GRANT_FIRST | kind::GRANT_LATER);
+    match style {
+        0 => 0,
+        1..=3 if is_granted => rng.pick(&[1, 1, 2, 3]),
+        1..=3 => 0,
+        4 => rng.within(0, 3) as u32,
+        5 => rng.next() as u32,
+        _ => rng.pick(&OWNERS),
+    }
+}
+
+/// Owners that a table may hold: none, the first and the last devices, and
+/// numbers that no device has, some of which are a device's in their low half.
+const OWNERS: [u32; 9] = [0, 1, 2, 65_534, 65_535, 65_536, 65_537, 1 << 31, u32::MAX];
+
+/// Writes one run that looks granted, sometimes without its bits. Most often
+/// all of it is one device's; else a frame of it is another's, or none's.
 fn plant_grant(rng: &mut Rng, state: &mut State) {
     let area = state.machine.areas[rng.below(state.machine.declared) as usize];
     let start = rng.below(area.bits()) << area.order;
@@ -195,12 +214,17 @@ fn plant_grant(rng: &mut Rng, state: &mut State) {
     let first = (area.base + start - state.machine.base) as usize;
     state.marks[first..first + count as usize].fill(kind::GRANT_LATER);
     state.marks[first] = mark_of(count, kind::GRANT_FIRST);
+    let owner = if rng.percent(80) { rng.within(1, 3) as u32 } else { rng.pick(&OWNERS) };
+    state.owners[first..first + count as usize].fill(owner);
+    if rng.percent(20) {
+        state.owners[first + rng.below(count) as usize] = rng.pick(&OWNERS);
+    }
     let word = rng.below(state.bitmap.len() as u64) as usize;
     state.bitmap[word] |= (1 << rng.below(64)) | 1 << ((start >> area.order) % 64);
 }
 
 /// A state of right shape with arbitrary tables: names may stand twice, kinds
-/// 6 and 7 occur, and bits need not agree with marks.
+/// 6 and 7 occur, and neither bits nor owners need agree with marks.
 pub fn right_state(rng: &mut Rng) -> State {
     let size = some_size(rng);
     let frames = frame_count(rng, size);
@@ -211,12 +235,16 @@ pub fn right_state(rng: &mut Rng) -> State {
     // Half of the large ones are free, but for planted grants, so that whole areas can be granted.
     let is_free = matches!(size, Size::Large) && rng.percent(50);
     let (style, bitmap_style) = if is_free { (0, 0) } else { (rng.below(8), rng.below(7)) };
+    let owner_style = rng.below(8);
     let bitmap_len = machine.bitmap_words() + rng.below(4);
+    let marks: Vec<u32> = (base..base + frames).map(|f| some_mark(rng, style, machine.is_ordinary(f))).collect();
+    let owners = marks.iter().map(|&mark| some_owner(rng, owner_style, mark)).collect();
     let mut state = State {
         machine,
-        marks: (base..base + frames).map(|f| some_mark(rng, style, machine.is_ordinary(f))).collect(),
+        marks,
         words: (0..frames).map(|_| rng.next()).collect(),
         bitmap: (0..bitmap_len).map(|_| some_bitmap_word(rng, bitmap_style)).collect(),
+        owners,
     };
     for _ in 0..rng.below(4) * machine.declared.min(1) {
         plant_grant(rng, &mut state);
@@ -225,12 +253,12 @@ pub fn right_state(rng: &mut Rng) -> State {
 }
 
 /// How many ways `break_shape` knows.
-pub const FAULTS: u64 = 22;
+pub const FAULTS: u64 = 23;
 
 /// Makes a right shape wrong in the given way. False if that way needs an
 /// area, a second area or a block order that the state lacks.
 pub fn break_shape(rng: &mut Rng, state: &mut State, fault: u64) -> bool {
-    if fault < 9 || fault == 19 {
+    if fault < 9 || fault == 19 || fault == 22 {
         break_record(rng, state, fault);
         return true;
     }
@@ -249,6 +277,7 @@ fn break_record(rng: &mut Rng, state: &mut State, fault: u64) {
         6 => m.declared = rng.pick(&[MAX_AREAS + 1, MAX_AREAS + 2, 1 << 32, 1 << 63, u64::MAX]),
         7 => change_length(rng, &mut state.marks),
         8 => change_length(rng, &mut state.words),
+        22 => change_length(rng, &mut state.owners),
         _ => m.frames += 1,
     }
 }
@@ -496,6 +525,32 @@ fn some_frame(rng: &mut Rng, state: &State) -> u64 {
     }
 }
 
+/// The device of a call that names no frame, most often one of a few.
+fn some_device(rng: &mut Rng) -> u64 {
+    match rng.below(100) {
+        0..=84 => rng.within(1, 3),
+        85..=92 => rng.pick(&[1, 2, Machine::MAX_DEVICE - 1, Machine::MAX_DEVICE]),
+        93..=97 => rng.pick(&[0, Machine::MAX_DEVICE + 1, Machine::MAX_DEVICE + 2, (1 << 32) + 1, u64::MAX]),
+        _ => rng.extreme(),
+    }
+}
+
+/// The device of a call on a frame, most often that frame's owner, if it is a
+/// device; seldom one that is the owner in its low half alone.
+fn some_device_at(rng: &mut Rng, state: &State, frame: u64) -> u64 {
+    let place = frame.wrapping_sub(state.machine.base);
+    let owner = usize::try_from(place).ok().and_then(|place| state.owners.get(place));
+    let owner = owner.map_or(0, |&owner| owner.into());
+    let is_device = (1..=Machine::MAX_DEVICE).contains(&owner);
+    match rng.below(100) {
+        0..=79 if is_device => owner,
+        0..=4 => owner,
+        5..=34 if owner > Machine::MAX_DEVICE => owner % (1 << 16),
+        80..=82 => owner.wrapping_add(rng.pick(&[1 << 16, 1 << 32, 1 << 63])),
+        _ => some_device(rng),
+    }
+}
+
 fn some_area(rng: &mut Rng, state: &State) -> u64 {
     match rng.below(100) {
         0..=93 => rng.below(state.machine.declared.clamp(1, Machine::MAX_AREAS)),
@@ -628,7 +683,7 @@ fn some_request(rng: &mut Rng, state: &State) -> Request {
 
 fn some_grant_call(rng: &mut Rng, state: &State) -> Call {
     let area = some_area(rng, state);
-    Call::Grant { area, count: some_count(rng, state, area), align: some_align(rng) }
+    Call::Grant { area, count: some_count(rng, state, area), align: some_align(rng), device: some_device(rng) }
 }
 
 fn some_release(rng: &mut Rng, state: &State) -> Call {
@@ -650,7 +705,16 @@ fn some_release(rng: &mut Rng, state: &State) -> Call {
         Some(index) if rng.percent(92) => index as u64,
         _ => some_area(rng, state),
     };
-    Call::Release { area, frame, count }
+    Call::Release { area, frame, count, device: some_device_at(rng, state, frame) }
+}
+
+fn some_device_word(rng: &mut Rng, state: &State, is_store: bool) -> Call {
+    let frame = some_frame(rng, state);
+    let device = some_device_at(rng, state, frame);
+    match is_store {
+        true => Call::DeviceStore { frame, word: rng.next(), device },
+        false => Call::DeviceRead { frame, device },
+    }
 }
 
 fn some_boot(rng: &mut Rng, state: &State) -> Call {
@@ -689,8 +753,8 @@ pub fn call(rng: &mut Rng, state: &State) -> Call {
         }
         121..=146 => some_grant_call(rng, state),
         147..=164 => some_release(rng, state),
-        165..=176 => Call::DeviceStore { frame: some_frame(rng, state), word: rng.next() },
-        177..=188 => Call::DeviceRead { frame: some_frame(rng, state) },
+        165..=176 => some_device_word(rng, state, true),
+        177..=188 => some_device_word(rng, state, false),
         _ => Call::Declare(some_request(rng, state)),
     }
 }
@@ -718,9 +782,9 @@ const POSSIBLE: [&[u64]; 13] = [
     &[0, 1, 2, 3, 5],
     &[0, 1, 2, 3],
     &[0, 1, 2, 7, 8],
-    &[0, 1, 2, 3, 9],
-    &[0, 1, 2, 3],
-    &[0, 1, 2, 3],
+    &[0, 1, 2, 3, 9, 15],
+    &[0, 1, 2, 3, 15],
+    &[0, 1, 2, 3, 15],
     &[0, 1, 2, 10, 11, 12, 13, 14],
 ];
 
@@ -751,6 +815,7 @@ fn sized_boot_start(rng: &mut Rng, size: Size) -> (State, Call) {
     };
     let mut state = State::fresh(frames as usize, bitmap_len);
     state.marks.iter_mut().for_each(|mark| *mark = rng.next() as u32);
+    state.owners.iter_mut().for_each(|owner| *owner = rng.next() as u32);
     let base = first_frame(rng, frames);
     let order = block_order(rng, size);
     let shaped = Machine { base, frames, order, ..Machine::fresh() };

@@ -8,6 +8,8 @@ use crate::replay::{encode, Station, FRAMES};
 use crate::Request;
 
 const AREA_FRAMES: u64 = 1_024;
+/// The one device of these days.
+const DEVICE: u64 = 1;
 
 struct Day {
     station: Station,
@@ -31,7 +33,7 @@ impl Day {
     }
 
     fn grant(&mut self, count: u64, align: u64) -> Answer {
-        self.make(Call::Grant { area: 0, count, align })
+        self.make(Call::Grant { area: 0, count, align, device: DEVICE })
     }
 
     /// Every grant of so many frames finds no run.
@@ -65,7 +67,7 @@ pub fn past_set_bits(each: u64, align: u64, grants: u64) -> Vec<u8> {
     let frames: Vec<u64> = (0..AREA_FRAMES).map(|_| day.grant(1, 0).first).collect();
     for (at, &frame) in (0..).zip(&frames) {
         if at % each != 1 {
-            day.make(Call::Release { area: 0, frame, count: 1 });
+            day.make(Call::Release { area: 0, frame, count: 1, device: DEVICE });
         }
     }
     day.grants(2, align, grants)

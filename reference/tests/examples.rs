@@ -1,4 +1,4 @@
-//! Every example of document 01, as document 02 has it.
+//! Every example of document 01, as document 02 has it: all name device 1.
 
 use reference::machine::{field_of, kind_of};
 use reference::replay::{encode, replay};
@@ -34,7 +34,7 @@ fn machine_a() -> State {
 }
 
 fn grant(state: &mut State, count: u64, align: u64) -> (u64, u64, u64) {
-    ask(state, Call::Grant { area: 0, count, align })
+    ask(state, Call::Grant { area: 0, count, align, device: 1 })
 }
 
 fn put(state: &mut State, name: u64) -> (u64, u64, u64) {
@@ -59,6 +59,7 @@ fn e1_and_e2() {
     assert_eq!(grant(&mut state, 3, 0), (0, 8, 0));
     assert_eq!([mark(&state, 8), mark(&state, 9), mark(&state, 10)], [28, 5, 5]);
     assert_eq!(mark(&state, 11), 0);
+    assert_eq!(state.owners[3..8], [0, 1, 1, 1, 0]);
     assert_eq!(state.bitmap[0], 0b111);
     assert_eq!(grant(&mut state, 2, 2), (0, 12, 0));
 }
@@ -89,14 +90,14 @@ fn e6_and_e7() {
     assert_eq!(grant(&mut state, 1, 0), (0, 9, 1));
     assert_eq!(ask(&mut state, Call::Read { name: 18 }), (0, 4, word));
     assert_eq!(ask(&mut state, Call::Read { name: 17 }), (0, 8, 0));
-    assert_eq!(ask(&mut state, Call::DeviceRead { frame: 9 }), (0, 0, 0));
+    assert_eq!(ask(&mut state, Call::DeviceRead { frame: 9, device: 1 }), (0, 0, 0));
 }
 
 #[test]
 fn e8() {
     let mut state = machine_a();
     grant(&mut state, 3, 0);
-    let release = |frame, count| Call::Release { area: 0, frame, count };
+    let release = |frame, count| Call::Release { area: 0, frame, count, device: 1 };
     assert_eq!(ask(&mut state, release(8, 2)), (9, 0, 0));
     assert_eq!(ask(&mut state, release(9, 1)), (3, 0, 0));
     assert_eq!(ask(&mut state, release(8, 3)), (0, 0, 0));
@@ -167,7 +168,7 @@ fn the_whole_output() {
     let calls = [
         boot_a(),
         declare_a(0),
-        Call::Grant { area: 0, count: 3, align: 0 },
+        Call::Grant { area: 0, count: 3, align: 0, device: 1 },
         Call::PutMovable { name: 7 },
         Call::Read { name: 7 },
     ];
@@ -196,7 +197,7 @@ fn spare_frames_of_the_last_bit() {
     assert_eq!(put(&mut state, 17), (0, 13, 0));
     ask(&mut state, Call::Store { name: 17, word: 9 });
     assert_eq!(grant(&mut state, 3, 0), (0, 16, 0));
-    let release = Call::Release { area: 0, frame: 8, count: 5 };
+    let release = Call::Release { area: 0, frame: 8, count: 5, device: 1 };
     assert_eq!(ask(&mut state, release), (0, 0, 0));
     assert_eq!(ask(&mut state, Call::Read { name: 17 }), (0, 13, 9));
 }

@@ -61,10 +61,11 @@ fn boot_numbers() {
 
 #[test]
 fn boot_lengths() {
-    for (marks, words) in [(3, 4), (5, 4), (4, 3), (4, 5), (0, 0)] {
+    for (marks, words, owners) in [(3, 4, 4), (5, 4, 4), (4, 3, 4), (4, 5, 4), (4, 4, 3), (4, 4, 5), (4, 4, 0), (0, 0, 0)] {
         let mut state = State::fresh(4, 0);
         state.marks.resize(marks, 9);
         state.words.resize(words, 9);
+        state.owners.resize(owners, 9);
         assert_eq!(ask(&mut state, boot(1, 4, 0)), (1, 0, 0));
     }
     // The record given is ignored, whatever it holds.
@@ -72,8 +73,9 @@ fn boot_lengths() {
     state.machine = Machine { base: 9, frames: u64::MAX, order: 99, declared: 99, ..two_areas().machine };
     state.bitmap = vec![5, 6];
     state.marks = vec![7; 4];
+    state.owners = vec![1, 65_535, 65_536, u32::MAX];
     assert_eq!(ask(&mut state, boot(1, 4, 0)), (0, 0, 0));
-    assert_eq!((state.marks, state.bitmap), (vec![0; 4], vec![0; 2]));
+    assert_eq!((state.marks, state.bitmap, state.owners), (vec![0; 4], vec![0; 2], vec![0; 4]));
     assert_eq!(state.machine, Machine { base: 1, frames: 4, ..Machine::fresh() });
 }
 
@@ -82,9 +84,9 @@ fn a_fresh_record_gets_one() {
     for frames in [0, 1, 4] {
         let state = State::fresh(frames, 4);
         assert_eq!(refusal(&state, Call::Read { name: 0 }), 1);
-        assert_eq!(refusal(&state, Call::Grant { area: 0, count: 0, align: 0 }), 1);
+        assert_eq!(refusal(&state, Call::Grant { area: 0, count: 0, align: 0, device: 0 }), 1);
         assert_eq!(refusal(&state, Call::Declare(Request::default())), 1);
-        assert_eq!(refusal(&state, Call::DeviceRead { frame: 0 }), 1);
+        assert_eq!(refusal(&state, Call::DeviceRead { frame: 0, device: 0 }), 1);
     }
 }
 
@@ -110,6 +112,9 @@ fn shapes_that_are_wrong() {
     assert_eq!(shape_after(|s| s.machine.declared = u64::MAX), 1);
     assert_eq!(shape_after(|s| s.marks.push(0)), 1);
     assert_eq!(shape_after(|s| s.words.truncate(31)), 1);
+    assert_eq!(shape_after(|s| s.owners.truncate(31)), 1);
+    assert_eq!(shape_after(|s| s.owners.push(0)), 1);
+    assert_eq!(shape_after(|s| s.owners.clear()), 1);
     assert_eq!(shape_after(|s| s.machine.areas[0].count = 0), 1);
     assert_eq!(shape_after(|s| s.machine.areas[0].order = 2), 1);
     assert_eq!(shape_after(|s| s.machine.areas[0].order = u64::MAX), 1);
@@ -177,7 +182,7 @@ fn puts_to_the_last_frame() {
 #[test]
 fn grant_arguments() {
     let state = two_areas();
-    let grant = |area, count, align| refusal(&state, Call::Grant { area, count, align });
+    let grant = |area, count, align| refusal(&state, Call::Grant { area, count, align, device: 1 });
     assert_eq!(grant(1, 1, 0), 0);
     assert_eq!(grant(2, 1, 0), 2);
     assert_eq!(grant(u64::MAX, 1, 0), 2);
@@ -198,11 +203,11 @@ fn grants_go_past_pages_that_stay() {
     for kind in [2, 3, 4, 5, 6, 7] {
         let mut state = two_areas();
         state.marks[8] = mark_of(3, kind);
-        assert_eq!(ask(&mut state, Call::Grant { area: 0, count: 2, align: 0 }), (0, 17, 0));
+        assert_eq!(ask(&mut state, Call::Grant { area: 0, count: 2, align: 0, device: 1 }), (0, 17, 0));
     }
     let mut state = two_areas();
     state.bitmap[0] = 0b1;
-    assert_eq!(ask(&mut state, Call::Grant { area: 0, count: 7, align: 0 }), (0, 17, 0));
+    assert_eq!(ask(&mut state, Call::Grant { area: 0, count: 7, align: 0, device: 1 }), (0, 17, 0));
     assert_eq!(state.bitmap[0], 0xff);
 }
 
@@ -214,8 +219,8 @@ fn a_grant_needs_just_enough_targets() {
     (8..11).for_each(|place| state.words[place] = place as u64);
     state.marks[30] = 0;
     state.marks[31] = mark_of(77, 0);
-    assert_eq!(refusal(&state, Call::Grant { area: 0, count: 3, align: 0 }), 8);
-    assert_eq!(ask(&mut state, Call::Grant { area: 0, count: 2, align: 0 }), (0, 16, 2));
+    assert_eq!(refusal(&state, Call::Grant { area: 0, count: 3, align: 0, device: 1 }), 8);
+    assert_eq!(ask(&mut state, Call::Grant { area: 0, count: 2, align: 0, device: 1 }), (0, 16, 2));
     assert_eq!(state.marks[30..], [mark_of(58, 1), mark_of(59, 1)]);
     assert_eq!(state.words[30..], [8, 9]);
     assert_eq!((state.marks[10], state.words[10]), (mark_of(60, 1), 10));
@@ -224,10 +229,10 @@ fn a_grant_needs_just_enough_targets() {
 #[test]
 fn release_checks() {
     let mut state = two_areas();
-    assert_eq!(ask(&mut state, Call::Grant { area: 1, count: 3, align: 0 }), (0, 32, 0));
+    assert_eq!(ask(&mut state, Call::Grant { area: 1, count: 3, align: 0, device: 1 }), (0, 32, 0));
     assert_eq!(state.bitmap, vec![0, 0b11, 0]);
     state.bitmap = vec![u64::MAX, u64::MAX, u64::MAX];
-    let release = |area, frame, count| Call::Release { area, frame, count };
+    let release = |area, frame, count| Call::Release { area, frame, count, device: 1 };
     let says = |area, frame, count| refusal(&state, release(area, frame, count));
     assert_eq!(says(2, 32, 3), 2);
     assert_eq!(says(1, 32, 0), 2);
@@ -244,8 +249,9 @@ fn release_checks() {
     let mut damaged = state.clone();
     damaged.marks[26] = 4;
     assert_eq!(refusal(&damaged, release(1, 32, 3)), 9);
-    // A count-4 mark at an odd frame is off the boundary of a 2-frame bit.
+    // A mark of kind 4 at an odd frame is off the boundary of a 2-frame bit.
     damaged.marks[25] = mark_of(1, 4);
+    damaged.owners[25] = 1;
     assert_eq!(refusal(&damaged, release(1, 33, 1)), 3);
     assert_eq!(ask(&mut state, release(1, 32, 3)), (0, 0, 0));
     assert_eq!(state.bitmap, vec![u64::MAX, u64::MAX - 3, u64::MAX]);
@@ -257,13 +263,14 @@ fn device_words() {
     let mut state = two_areas();
     state.marks[0] = mark_of(1, 4);
     state.marks[31] = mark_of(9, 5);
-    let read = |frame| Call::DeviceRead { frame };
+    (state.owners[0], state.owners[31]) = (1, 1);
+    let read = |frame| Call::DeviceRead { frame, device: 1 };
     assert_eq!(refusal(&state, read(7)), 2);
     assert_eq!(refusal(&state, read(40)), 2);
     assert_eq!(refusal(&state, read(u64::MAX)), 2);
     assert_eq!(refusal(&state, read(9)), 3);
-    assert_eq!(ask(&mut state, Call::DeviceStore { frame: 8, word: 6 }), (0, 0, 0));
-    assert_eq!(ask(&mut state, Call::DeviceStore { frame: 39, word: u64::MAX }), (0, 0, 0));
+    assert_eq!(ask(&mut state, Call::DeviceStore { frame: 8, word: 6, device: 1 }), (0, 0, 0));
+    assert_eq!(ask(&mut state, Call::DeviceStore { frame: 39, word: u64::MAX, device: 1 }), (0, 0, 0));
     assert_eq!(ask(&mut state, read(8)), (0, 6, 0));
     assert_eq!(ask(&mut state, read(39)), (0, u64::MAX, 0));
 }
@@ -320,8 +327,8 @@ fn declare_at_64_areas() {
     assert_eq!(declare(&state, request(0, 0, u64::MAX, 3)).0, 10);
     assert_eq!(declare(&state, request(0, 1, 1, 0)).0, 10);
     // The last area has a bit and a grant of its own.
-    assert_eq!(ask(&mut state, Call::Grant { area: 64, count: 1, align: 0 }), (2, 0, 0));
-    assert_eq!(ask(&mut state, Call::Grant { area: 63, count: 1, align: 0 }), (0, 37, 0));
+    assert_eq!(ask(&mut state, Call::Grant { area: 64, count: 1, align: 0, device: 1 }), (2, 0, 0));
+    assert_eq!(ask(&mut state, Call::Grant { area: 63, count: 1, align: 0, device: 1 }), (0, 37, 0));
     assert_eq!((state.bitmap[62], state.bitmap[63]), (0, 1));
 }
 
@@ -491,6 +498,7 @@ fn a_fixed_range_outside_memory_with_a_limit() {
     state.machine.frames = 31;
     state.marks.truncate(31);
     state.words.truncate(31);
+    state.owners.truncate(31);
     assert_eq!(fixed_below(&state, 36, 2, FAR), (0, 36, 2));
     assert_eq!(fixed_below(&state, 38, 2, 40), (11, 0, 0));
     assert_eq!(fixed_below(&state, 38, 2, 0), (13, 0, 0));
@@ -646,6 +654,7 @@ fn boot_declares_in_turn() {
     let with = |text: &[u8]| {
         let mut state = State::fresh(32, 2);
         state.marks.fill(u32::MAX);
+        state.owners.fill(u32::MAX);
         let boot = Call::Boot { base: 4, frames: 32, order: 2, text: text.to_vec() };
         let before = state.clone();
         let answer = ask(&mut state, boot);
@@ -746,10 +755,13 @@ fn replay_of_broken_input() {
 
 #[test]
 fn replay_record_bytes() {
-    let grant = Call::Grant { area: 1, count: 0x0403_0201, align: 2 };
-    assert_eq!(encode(&grant), [8, 1, 2, 1, 2, 3, 4]);
-    let release = Call::Release { area: 3, frame: 9, count: 2 };
-    assert_eq!(encode(&release), [9, 3, 9, 0, 0, 0, 0, 0, 0, 0, 2, 0, 0, 0]);
+    let grant = Call::Grant { area: 1, count: 0x0403_0201, align: 2, device: 0x0605 };
+    assert_eq!(encode(&grant), [8, 1, 2, 1, 2, 3, 4, 5, 6]);
+    let release = Call::Release { area: 3, frame: 9, count: 2, device: 65_535 };
+    assert_eq!(encode(&release), [9, 3, 9, 0, 0, 0, 0, 0, 0, 0, 2, 0, 0, 0, 255, 255]);
+    let store = Call::DeviceStore { frame: 9, word: 3, device: 258 };
+    assert_eq!(encode(&store), [10, 9, 0, 0, 0, 0, 0, 0, 0, 3, 0, 0, 0, 0, 0, 0, 0, 2, 1]);
+    assert_eq!(encode(&Call::DeviceRead { frame: 9, device: 1 }), [11, 9, 0, 0, 0, 0, 0, 0, 0, 1, 0]);
     assert_eq!(encode(&boot(258, 3, 4)), [0, 2, 1, 0, 0, 0, 0, 0, 0, 3, 0, 0, 0, 4]);
     let mut input = stream(&[boot(1, 4, 0), Call::Declare(Request { fixed: true, ..request(PAGE, 1, 0, 0) })]);
     // Any nonzero byte means fixed.
@@ -766,10 +778,10 @@ fn the_largest_machine() {
     let half = 131_072;
     let base = (1 << 36) - 2 * half;
     assert_eq!(ask(&mut state, Call::Boot { base, frames: 2 * half, order: 10, text }), (0, 0, 0));
-    assert_eq!(ask(&mut state, Call::Grant { area: 1, count: half, align: 16 }), (0, base, 0));
-    assert_eq!(ask(&mut state, Call::Grant { area: 0, count: half, align: 15 }), (0, base + half, 0));
+    assert_eq!(ask(&mut state, Call::Grant { area: 1, count: half, align: 16, device: 1 }), (0, base, 0));
+    assert_eq!(ask(&mut state, Call::Grant { area: 0, count: half, align: 15, device: 2 }), (0, base + half, 0));
     assert_eq!(ask(&mut state, Call::PutMovable { name: 1 }), (6, 0, 0));
-    let release = Call::Release { area: 0, frame: base + half, count: half };
+    let release = Call::Release { area: 0, frame: base + half, count: half, device: 2 };
     assert_eq!(ask(&mut state, release), (0, 0, 0));
     assert_eq!(ask(&mut state, Call::PutMovable { name: 1 }), (0, base + half, 0));
 }
@@ -781,15 +793,205 @@ fn the_largest_grant() {
     let mut state = State::fresh(all as usize, 4096);
     assert_eq!(ask(&mut state, Call::Boot { base, frames: all, order: 0, text: b"a=1G".to_vec() }), (0, 0, 0));
     assert_eq!(state.machine.areas[0], Area { base, count: all, order: 0 });
-    assert_eq!(refusal(&state, Call::Grant { area: 0, count: all + 1, align: 0 }), 7);
-    assert_eq!(ask(&mut state, Call::Grant { area: 0, count: all, align: 16 }), (0, base, 0));
+    assert_eq!(refusal(&state, Call::Grant { area: 0, count: all + 1, align: 0, device: 1 }), 7);
+    assert_eq!(ask(&mut state, Call::Grant { area: 0, count: all, align: 16, device: 65_535 }), (0, base, 0));
+    assert!(state.owners.iter().all(|&owner| owner == 65_535));
     assert_eq!((state.marks[0], state.marks[1], state.bitmap[4095]), (8 * 262_144 + 4, 5, u64::MAX));
     let last = (1 << 36) - 1;
-    assert_eq!(ask(&mut state, Call::DeviceStore { frame: last, word: 9 }), (0, 0, 0));
-    assert_eq!(ask(&mut state, Call::DeviceRead { frame: last }), (0, 9, 0));
-    assert_eq!(ask(&mut state, Call::DeviceRead { frame: last + 1 }), (2, 0, 0));
-    assert_eq!(refusal(&state, Call::Release { area: 0, frame: base, count: all - 1 }), 9);
-    assert_eq!(ask(&mut state, Call::Release { area: 0, frame: base, count: all }), (0, 0, 0));
+    assert_eq!(ask(&mut state, Call::DeviceStore { frame: last, word: 9, device: 65_535 }), (0, 0, 0));
+    assert_eq!(ask(&mut state, Call::DeviceRead { frame: last, device: 65_535 }), (0, 9, 0));
+    assert_eq!(ask(&mut state, Call::DeviceRead { frame: last + 1, device: 65_535 }), (2, 0, 0));
+    assert_eq!(refusal(&state, Call::Release { area: 0, frame: base, count: all - 1, device: 65_535 }), 9);
+    assert_eq!(ask(&mut state, Call::Release { area: 0, frame: base, count: all, device: 65_535 }), (0, 0, 0));
+    assert!(state.owners.iter().all(|&owner| owner == 0));
     assert!(state.marks.iter().all(|&mark| mark == 0) && state.bitmap.iter().all(|&word| word == 0));
     assert_eq!(state.words[262_143], 0);
+}
+
+// ---- devices and owners ----
+
+/// Two areas; area 0 has a grant of 3 frames from 16 on, device 7's, and one of 2 from 19 on, device 9's.
+fn two_devices() -> State {
+    let mut state = two_areas();
+    assert_eq!(ask(&mut state, Call::Grant { area: 0, count: 3, align: 0, device: 7 }), (0, 16, 0));
+    assert_eq!(ask(&mut state, Call::Grant { area: 0, count: 2, align: 0, device: 9 }), (0, 19, 0));
+    state
+}
+
+/// Each of the four calls, right but for its device, on two_devices().
+fn by(device: u64) -> [Call; 4] {
+    [
+        Call::Grant { area: 0, count: 1, align: 0, device },
+        Call::Release { area: 0, frame: 16, count: 3, device },
+        Call::DeviceStore { frame: 16, word: 5, device },
+        Call::DeviceRead { frame: 18, device },
+    ]
+}
+
+#[test]
+fn device_numbers() {
+    let says = |device| by(device).map(|call| refusal(&two_devices(), call));
+    assert_eq!(says(0), [2, 2, 2, 2]);
+    assert_eq!(says(1), [0, 15, 15, 15]);
+    assert_eq!(says(7), [0, 0, 0, 0]);
+    assert_eq!(says(65_535), [0, 15, 15, 15]);
+    // The low half, or the low quarter, of a number is no device.
+    for device in [65_536, 65_536 + 7, (1 << 32) + 7, (1 << 63) + 7, u64::MAX] {
+        assert_eq!(says(device), [2, 2, 2, 2]);
+    }
+}
+
+/// The first and the last device do all four.
+#[test]
+fn the_first_and_the_last_device() {
+    for device in [1, 65_535] {
+        let mut state = two_areas();
+        assert_eq!(ask(&mut state, Call::Grant { area: 0, count: 3, align: 0, device }), (0, 16, 0));
+        assert_eq!(state.owners[7..12], [0, device as u32, device as u32, device as u32, 0]);
+        let [_, release, store, read] = by(device);
+        assert_eq!(ask(&mut state, store), (0, 0, 0));
+        assert_eq!(ask(&mut state, read), (0, 0, 0));
+        assert_eq!(ask(&mut state, release), (0, 0, 0));
+        assert_eq!(state, two_areas());
+    }
+}
+
+#[test]
+fn a_device_is_judged_with_the_other_numbers() {
+    let mut wrong = two_devices();
+    wrong.owners.pop();
+    for device in [0, 7, 65_536] {
+        assert_eq!(by(device).map(|call| refusal(&wrong, call)), [1, 1, 1, 1]);
+    }
+    let state = two_devices();
+    let release = |frame, count, device| refusal(&state, Call::Release { area: 0, frame, count, device });
+    let read = |frame, device| refusal(&state, Call::DeviceRead { frame, device });
+    // 2 by the device comes before 7 and 8, 3, and 9.
+    assert_eq!(refusal(&state, Call::Grant { area: 0, count: 9, align: 0, device: 7 }), 7);
+    assert_eq!(refusal(&state, Call::Grant { area: 0, count: 9, align: 0, device: 0 }), 2);
+    let mut full = two_areas();
+    full.marks.fill(mark_of(4, 1));
+    assert_eq!(refusal(&full, Call::Grant { area: 0, count: 1, align: 0, device: 7 }), 8);
+    assert_eq!(refusal(&full, Call::Grant { area: 0, count: 1, align: 0, device: 65_536 }), 2);
+    assert_eq!((release(17, 1, 7), release(17, 1, 0)), (3, 2));
+    assert_eq!((release(16, 2, 7), release(16, 2, 65_536)), (9, 2));
+    assert_eq!((read(8, 7), read(8, 0), read(7, 7), read(7, 0)), (3, 2, 2, 2));
+}
+
+#[test]
+fn release_asks_who_owns_it_after_3_and_before_9() {
+    let state = two_devices();
+    let says = |frame, count, device| refusal(&state, Call::Release { area: 0, frame, count, device });
+    // 2 outside the area and 3 at no first frame, whoever asks; then 15; then 9 for the owner alone.
+    assert_eq!((says(24, 1, 7), says(24, 1, 9)), (2, 2));
+    assert_eq!((says(17, 1, 7), says(17, 1, 9)), (3, 3));
+    assert_eq!((says(21, 1, 7), says(21, 1, 9)), (3, 3));
+    assert_eq!((says(16, 2, 9), says(16, 2, 7)), (15, 9));
+    assert_eq!((says(16, 5, 9), says(16, 5, 7)), (15, 9));
+    assert_eq!((says(19, 2, 7), says(19, 2, 9)), (15, 0));
+    assert_eq!((says(16, 3, 9), says(16, 3, 7)), (15, 0));
+    // Off a bit boundary it is 3, although kind 4 and another's.
+    let mut odd = two_areas();
+    (odd.marks[25], odd.owners[25]) = (mark_of(1, 4), 9);
+    let release = |device| Call::Release { area: 1, frame: 33, count: 1, device };
+    assert_eq!((refusal(&odd, release(9)), refusal(&odd, release(7))), (3, 3));
+}
+
+/// Whose the later frames are plays no part in a release, and they are nobody's after it; the frames around it keep their owners.
+#[test]
+fn release_asks_its_first_frame_alone() {
+    let mut state = two_devices();
+    state.owners = (0..32).map(|place| 70_000 + place).collect();
+    let release = |device| Call::Release { area: 0, frame: 16, count: 3, device };
+    assert_eq!(refusal(&state, release(7)), 15);
+    state.owners[8] = 7;
+    let before = state.clone();
+    assert_eq!(refusal(&state, release(9)), 15);
+    assert_eq!(ask(&mut state, release(7)), (0, 0, 0));
+    assert_eq!(state.owners[8..11], [0, 0, 0]);
+    assert_eq!((&state.owners[..8], &state.owners[11..]), (&before.owners[..8], &before.owners[11..]));
+    // A first frame that is another's is refused, although all later ones are the device's.
+    let mut state = two_devices();
+    state.owners[8] = 9;
+    assert_eq!(refusal(&state, release(7)), 15);
+    assert_eq!(refusal(&state, release(9)), 0);
+}
+
+#[test]
+fn device_words_are_the_owner_s() {
+    let mut state = two_devices();
+    let read = |frame, device| Call::DeviceRead { frame, device };
+    let store = |frame, device| Call::DeviceStore { frame, word: 5, device };
+    // Outside memory, nothing granted, another's.
+    for (frame, expected) in [(7, 2), (40, 2), (8, 3), (21, 3), (19, 15), (20, 15), (16, 0), (18, 0)] {
+        assert_eq!((refusal(&state, read(frame, 7)), refusal(&state, store(frame, 7))), (expected, expected), "{frame}");
+    }
+    // Each frame by its own number: a later frame may be another's, and what no device has is nobody's.
+    state.owners[9] = 9;
+    assert_eq!((refusal(&state, read(17, 7)), refusal(&state, read(17, 9)), refusal(&state, read(16, 9))), (15, 0, 15));
+    for owner in [0, 65_536 + 7, 1 << 31 | 7, u32::MAX] {
+        state.owners[9] = owner;
+        for device in [1, 7, 9, 65_535] {
+            assert_eq!((refusal(&state, read(17, device)), refusal(&state, store(17, device))), (15, 15));
+        }
+        assert_eq!(refusal(&state, read(17, owner.into())), 2);
+    }
+    // 3 comes first, whoever is said to own a free frame.
+    (state.marks[0], state.owners[0]) = (0, 9);
+    assert_eq!((refusal(&state, read(8, 9)), refusal(&state, read(8, 7))), (3, 3));
+}
+
+#[test]
+fn a_released_frame_is_nobody_s() {
+    let mut state = two_devices();
+    assert_eq!(ask(&mut state, Call::Release { area: 0, frame: 16, count: 3, device: 7 }), (0, 0, 0));
+    assert_eq!(refusal(&state, Call::DeviceStore { frame: 16, word: 1, device: 7 }), 3);
+    assert_eq!(ask(&mut state, Call::Grant { area: 0, count: 2, align: 0, device: 9 }), (0, 16, 0));
+    assert_eq!(state.owners[8..13], [9, 9, 0, 9, 9]);
+    assert_eq!(refusal(&state, Call::DeviceStore { frame: 16, word: 1, device: 7 }), 15);
+    assert_eq!(refusal(&state, Call::DeviceStore { frame: 16, word: 1, device: 9 }), 0);
+}
+
+/// A grant writes its device on its frames, the spare ones of its last bit not among them; pages that move take no owner along and leave
+/// none behind; and what other calls do to a frame leaves its owner.
+#[test]
+fn owners_stay_but_for_grants_and_releases() {
+    let mut state = two_areas();
+    state.owners = (0..32).map(|place| 100 + place).collect();
+    let mut expected = state.owners.clone();
+    for name in 1..=24 {
+        assert_eq!(ask(&mut state, Call::PutMovable { name }).0, 0);
+    }
+    assert_eq!(ask(&mut state, Call::Drop { name: 1 }), (0, 0, 0));
+    assert_eq!(ask(&mut state, Call::Drop { name: 5 }), (0, 0, 0));
+    assert_eq!(ask(&mut state, Call::Pin { name: 2 }), (0, 0, 0));
+    assert_eq!(ask(&mut state, Call::Store { name: 3, word: 1 }), (0, 0, 0));
+    assert_eq!(state.owners, expected);
+    // Pages 21 and 22, at 16 and 17, go to frames 8 and 12.
+    assert_eq!(ask(&mut state, Call::Grant { area: 0, count: 2, align: 0, device: 7 }), (0, 16, 2));
+    assert_eq!(ask(&mut state, Call::Read { name: 22 }), (0, 12, 0));
+    expected[8..10].fill(7);
+    assert_eq!(state.owners, expected);
+    // Three frames of two bits of two: the fourth is not the device's.
+    assert_eq!(ask(&mut state, Call::Grant { area: 1, count: 3, align: 0, device: 9 }), (0, 32, 0));
+    expected[24..27].fill(9);
+    assert_eq!(state.owners, expected);
+    assert_eq!(ask(&mut state, Call::Release { area: 1, frame: 32, count: 3, device: 9 }), (0, 0, 0));
+    expected[24..27].fill(0);
+    assert_eq!(state.owners, expected);
+}
+
+/// Records of kinds 8 to 11 without their last two bytes, as they were before there were devices, are cut short or read otherwise.
+#[test]
+fn replay_reads_no_older_records() {
+    let head = stream(&[boot(4, 32, 2), Call::Declare(Request { fixed: true, ..request(8 * PAGE, 16 * PAGE, 0, 0) })]);
+    for call in by(1) {
+        let record = encode(&call);
+        let older = [&head[..], &record[..record.len() - 2]].concat();
+        assert!(output_of(&older).ends_with(&format!("1 0 8 16\nbad {}\n", head.len())), "{call:?}");
+    }
+    // Two of them: the second's first two bytes are taken for the first's device, and its third is the kind of a boot that is cut.
+    let grant = [8, 0, 0, 3, 0, 0, 0];
+    let older = [&head[..], &grant, &grant].concat();
+    assert!(output_of(&older).ends_with(&format!("2 0 8 0\nbad {}\n", head.len() + 9)));
 }

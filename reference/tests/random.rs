@@ -33,6 +33,7 @@ fn every_refusal_of_every_call_occurs() {
 fn an_accepted_call_keeps_the_shape() {
     run(2, 100_000, &mut |before, call, after, answer| {
         assert_eq!(after.marks.len(), before.marks.len());
+        assert_eq!(after.owners.len(), before.owners.len());
         if answer.refusal == 0 {
             assert!(after.clone().shape_is_right(), "{call:?}");
         }
@@ -60,6 +61,7 @@ fn every_fault_makes_a_wrong_shape() {
 fn the_tables_are_as_odd_as_they_should_be() {
     let mut rng = Rng::new(4);
     let (mut twice, mut unused_kinds, mut full) = (0, 0, 0);
+    let (mut no_device, mut unowned, mut stray) = (0, 0, 0);
     for _ in 0..2000 {
         let state = right_state(&mut rng);
         let mut pages: Vec<u32> =
@@ -70,8 +72,14 @@ fn the_tables_are_as_odd_as_they_should_be() {
         twice += u32::from(pages.len() < all);
         unused_kinds += u32::from(state.marks.iter().any(|&m| kind_of(m) > kind::GRANT_LATER));
         full += u32::from(state.machine.declared == 64);
+        let is_granted = |mark| matches!(kind_of(mark), kind::GRANT_FIRST | kind::GRANT_LATER);
+        let mut each = state.marks.iter().zip(&state.owners);
+        no_device += u32::from(state.owners.iter().any(|&owner| owner > 65_535));
+        unowned += u32::from(each.clone().any(|(&mark, &owner)| is_granted(mark) && owner == 0));
+        stray += u32::from(each.any(|(&mark, &owner)| !is_granted(mark) && owner != 0));
     }
     assert!(twice > 200 && unused_kinds > 200 && full > 20, "{twice} {unused_kinds} {full}");
+    assert!(no_device > 200 && unowned > 200 && stray > 200, "{no_device} {unowned} {stray}");
 }
 
 /// Seldom, but not never: the most frames, the most areas, and texts about as long as can be.
@@ -119,6 +127,94 @@ fn the_same_seed_gives_the_same_list() {
     assert_eq!(records(5, 200), records(5, 200));
 }
 
+/// The device that a call names.
+fn device_of(call: &Call) -> Option<u64> {
+    match *call {
+        Call::Grant { device, .. }
+        | Call::Release { device, .. }
+        | Call::DeviceStore { device, .. }
+        | Call::DeviceRead { device, .. } => Some(device),
+        _ => None,
+    }
+}
+
+/// The owner of the frame that a call names, where there is such a frame.
+fn owner_named(state: &State, call: &Call) -> Option<u32> {
+    match *call {
+        Call::Release { frame, .. } | Call::DeviceStore { frame, .. } | Call::DeviceRead { frame, .. } => {
+            let place = usize::try_from(frame.wrapping_sub(state.machine.base)).ok()?;
+            state.owners.get(place).copied()
+        }
+        _ => None,
+    }
+}
+
+/// Each of the four calls names devices on all sides; those outside 1 to 65,535 get 1 or 2.
+#[test]
+fn devices_on_all_sides_occur() {
+    let mut seen: BTreeMap<(u8, u64, bool), u64> = BTreeMap::new();
+    run(14, CALLS, &mut |_, call, _, answer| {
+        let Some(device) = device_of(call) else { return };
+        let is_device = (1..=65_535).contains(&device);
+        assert!(is_device || [1, 2].contains(&answer.refusal), "{call:?}");
+        if [0, 1, 2, 65_534, 65_535, 65_536, 65_537, u64::MAX].contains(&device) && answer.refusal != 1 {
+            *seen.entry((call.kind(), device, answer.refusal == 0)).or_default() += 1;
+        }
+    });
+    println!("{seen:?}");
+    // Eight numbers, four of which can be accepted, for four calls.
+    assert!(seen.len() == 4 * (8 + 4) && seen.values().all(|&times| times >= 20), "{seen:?}");
+}
+
+/// Every call that is not refused for its shape or its numbers, and whose frame is granted, is the owner's or gets 15; owners above 65,535,
+/// and none, occur among those that no device is.
+#[test]
+fn only_the_owner_is_not_refused() {
+    let mut seen: BTreeMap<(u8, &str), u64> = BTreeMap::new();
+    run(15, CALLS, &mut |before, call, _, answer| {
+        let (Some(owner), Some(device)) = (owner_named(before, call), device_of(call)) else { return };
+        if [1, 2, 3].contains(&answer.refusal) {
+            return;
+        }
+        assert_eq!(answer.refusal != 15, u64::from(owner) == device, "{call:?}");
+        let whose = match owner {
+            _ if answer.refusal != 15 => "the owner's",
+            0 => "nobody's",
+            1..=65_535 => "another device's",
+            _ if u64::from(owner) % 65_536 == device => "no device's, but in its low half",
+            _ => "no device's",
+        };
+        *seen.entry((call.kind(), whose)).or_default() += 1;
+    });
+    println!("{seen:?}");
+    assert!(seen.len() == 3 * 5 && seen.values().all(|&times| times >= 20), "{seen:?}");
+}
+
+/// Owners change by accepted grants, releases and boots, there where these are, and by nothing else.
+#[test]
+fn owners_change_where_frames_are_granted_and_released() {
+    let mut changed = BTreeMap::new();
+    run(16, CALLS, &mut |before, call, after, answer| {
+        let place = |frame: u64| (frame - before.machine.base) as usize;
+        let mut expected = before.owners.clone();
+        match *call {
+            _ if answer.refusal != 0 => {}
+            Call::Boot { .. } => expected.fill(0),
+            Call::Grant { count, device, .. } => expected[place(answer.first)..][..count as usize].fill(device as u32),
+            Call::Release { frame, count, .. } => expected[place(frame)..][..count as usize].fill(0),
+            _ => {}
+        }
+        assert!(after.owners == expected, "{call:?}");
+        if answer.refusal == 0 && matches!(call, Call::Grant { .. }) && answer.second > 0 {
+            *changed.entry("a grant that moves pages").or_insert(0) += 1;
+        }
+        if before.owners != after.owners {
+            *changed.entry("any").or_insert(0) += 1;
+        }
+    });
+    assert!(changed.len() == 2 && changed.values().all(|&times| times > 300), "{changed:?}");
+}
+
 /// Runs calls, and tells of each declare that is not refused with 1, 10 or 2: the state before, the request, A, the answer.
 fn judged_declares(seed: u64, calls: u64, tell: &mut dyn FnMut(&State, &Request, u64, Answer)) {
     run(seed, calls, &mut |before, call, _, answer| match call {
@@ -161,7 +257,7 @@ fn side_of_limit(end: u64, step: u64, limit: u64) -> &'static str {
 #[test]
 fn fixed_ranges_on_both_sides_of_the_limit_occur() {
     let mut seen: BTreeMap<(&str, &str), u64> = BTreeMap::new();
-    judged_declares(12, 1_000_000, &mut |before, request, step, answer| {
+    judged_declares(12, 1_500_000, &mut |before, request, step, answer| {
         let small = request.limit != 0 && request.limit < step;
         if !request.fixed || request.base == 0 || request.order > before.machine.order || small {
             return;
@@ -213,7 +309,8 @@ struct Page {
 struct Ledger {
     pages: HashMap<u64, Page>,
     grants: HashMap<u64, u64>,
-    device_words: HashMap<u64, u64>,
+    /// For each granted frame its word and its device.
+    device_words: HashMap<u64, (u64, u64)>,
     granted: u64,
     released: u64,
 }
@@ -234,20 +331,20 @@ impl Ledger {
             }
             Call::Unpin { name } => self.page(name).pinned_at = None,
             Call::Store { name, word } => self.page(name).word = word,
-            Call::Grant { count, .. } => self.add_grant(answer.first, count),
+            Call::Grant { count, device, .. } => self.add_grant(answer.first, count, device),
             Call::Release { frame, count, .. } => self.end_grant(frame, count),
-            Call::DeviceStore { frame, word } => {
-                self.device_words.insert(frame, word);
+            Call::DeviceStore { frame, word, device } => {
+                assert_eq!(self.device_words.insert(frame, (word, device)).map(|before| before.1), Some(device));
             }
             _ => {}
         }
     }
 
-    fn add_grant(&mut self, first: u64, count: u64) {
+    fn add_grant(&mut self, first: u64, count: u64, device: u64) {
         self.grants.insert(first, count);
         self.granted += count;
         for frame in first..first + count {
-            assert!(self.device_words.insert(frame, 0).is_none(), "a frame granted twice");
+            assert!(self.device_words.insert(frame, (0, device)).is_none(), "a frame granted twice");
         }
     }
 
@@ -271,11 +368,17 @@ impl Ledger {
         let base = state.machine.base;
         for place in 0..state.marks.len() {
             let frame = base + place as u64;
-            let answer = state.apply(&Call::DeviceRead { frame });
+            let mut read_by = |device| state.apply(&Call::DeviceRead { frame, device });
             match self.device_words.get(&frame) {
-                None => assert_eq!(answer.refusal, 3),
-                Some(&word) => assert_eq!((answer.refusal, answer.first), (0, word)),
+                None => assert_eq!(read_by(1).refusal, 3),
+                Some(&(word, device)) => {
+                    let answer = read_by(device);
+                    assert_eq!((answer.refusal, answer.first), (0, word));
+                    assert_eq!(read_by(1 + device % 65_535).refusal, 15);
+                }
             }
+            let owner = self.device_words.get(&frame).map_or(0, |&(_, device)| device);
+            assert_eq!(u64::from(state.owners[place]), owner);
         }
         assert_eq!(self.device_words.len() as u64, self.granted - self.released);
     }
@@ -338,6 +441,7 @@ fn stored_words_leave_all_other_answers_alone() {
             }
         }
         assert_eq!(one.marks, two.marks);
+        assert_eq!(one.owners, two.owners);
     }
 }
 

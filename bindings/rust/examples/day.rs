@@ -13,8 +13,8 @@ use szk::Machine;
 fn main() -> io::Result<()> {
     let mut records = Vec::new();
     io::stdin().read_to_end(&mut records)?;
-    let (marks, words, bitmap) = (vec![0; FRAMES], vec![0; FRAMES], vec![0; BITMAP_WORDS]);
-    let mut held = Held { machine: Machine::fresh(), marks, words, bitmap };
+    let (marks, words, bitmap, owners) = (vec![0; FRAMES], vec![0; FRAMES], vec![0; BITMAP_WORDS], vec![0; FRAMES]);
+    let mut held = Held { machine: Machine::fresh(), marks, words, bitmap, owners };
     let (mut at, mut made, mut refused) = (0, 0, 0);
     while let Some(kind) = records.get(at) {
         let length = body_length(*kind).expect("a kind of record");

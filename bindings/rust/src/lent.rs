@@ -4,12 +4,13 @@
 //! changes nothing else; with a record shorter than `Machine::NUMBERS` it answers 1, 0, 0 and changes nothing else; numbers after as
 //! many and after the answer's 3 are kept.
 
-/// The five slices that every call is lent.
+/// The six slices that every call is lent.
 pub struct Lent<'a> {
     pub record: &'a mut [u64],
     pub marks: &'a mut [u32],
     pub words: &'a mut [u64],
     pub bitmap: &'a mut [u64],
+    pub owners: &'a mut [u32],
     pub answer: &'a mut [u64],
 }
 
@@ -22,6 +23,7 @@ macro_rules! calls {
                 marks: *mut u32, marks_length: usize,
                 words: *mut u64, words_length: usize,
                 bitmap: *mut u64, bitmap_length: usize,
+                owners: *mut u32, owners_length: usize,
                 answer: *mut u64, answer_length: usize,
                 $($number: u64,)* $($text: *const u8, text_length: usize,)?
             );)*
@@ -35,6 +37,7 @@ macro_rules! calls {
                     lent.marks.as_mut_ptr(), lent.marks.len(),
                     lent.words.as_mut_ptr(), lent.words.len(),
                     lent.bitmap.as_mut_ptr(), lent.bitmap.len(),
+                    lent.owners.as_mut_ptr(), lent.owners.len(),
                     lent.answer.as_mut_ptr(), lent.answer.len(),
                     $($number,)* $($text.as_ptr(), $text.len(),)?
                 )
@@ -53,8 +56,8 @@ calls! {
     unpin is szk_unpin(name);
     store is szk_store(name, word);
     read is szk_read(name);
-    grant is szk_grant(area, count, align);
-    release is szk_release(area, frame, count);
-    device_store is szk_device_store(frame, word);
-    device_read is szk_device_read(frame);
+    grant is szk_grant(area, count, align, device);
+    release is szk_release(area, frame, count, device);
+    device_store is szk_device_store(frame, word, device);
+    device_read is szk_device_read(frame, device);
 }

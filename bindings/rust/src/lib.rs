@@ -1,4 +1,4 @@
-//! The proved page manager, for Rust: a machine record whose calls are lent three tables of any length and any contents.
+//! The proved page manager, for Rust: a machine record whose calls are lent four tables of any length and any contents.
 //!
 //! What each call does and refuses is said in `include/szk.h`.
 
@@ -19,11 +19,13 @@ pub struct Answer {
     pub second: u64,
 }
 
-/// The three tables lent to a call: a mark and a content word for each frame, and the bitmap words.
+/// The four tables lent to a call: a mark and a content word for each frame, the bitmap words, and for each frame the device that owns it, 0
+/// for none.
 pub struct Tables<'a> {
     pub marks: &'a mut [u32],
     pub words: &'a mut [u64],
     pub bitmap: &'a mut [u64],
+    pub owners: &'a mut [u32],
 }
 
 /// What a declare asks for: amounts in bytes, the order of the pages per bit, and whether the base is where the area must begin.
@@ -101,6 +103,7 @@ impl Machine {
             marks: t.marks,
             words: t.words,
             bitmap: t.bitmap,
+            owners: t.owners,
             answer: &mut answer,
         });
         let [refusal, first, second] = answer;
@@ -152,23 +155,23 @@ impl Machine {
         self.call(t, |lent| lent::read(lent, name))
     }
 
-    /// Grants `count` frames of an area, the first a multiple of 2^align. Answers the first frame and the number of pages moved.
-    pub fn grant(&mut self, t: &mut Tables, area: u64, count: u64, align: u64) -> Answer {
-        self.call(t, |lent| lent::grant(lent, area, count, align))
+    /// Grants `count` frames of an area to a device, the first a multiple of 2^align. Answers the first frame and the number of pages moved.
+    pub fn grant(&mut self, t: &mut Tables, area: u64, count: u64, align: u64, device: u64) -> Answer {
+        self.call(t, |lent| lent::grant(lent, area, count, align, device))
     }
 
-    /// Releases a grant.
-    pub fn release(&mut self, t: &mut Tables, area: u64, frame: u64, count: u64) -> Answer {
-        self.call(t, |lent| lent::release(lent, area, frame, count))
+    /// Releases a device's own grant.
+    pub fn release(&mut self, t: &mut Tables, area: u64, frame: u64, count: u64, device: u64) -> Answer {
+        self.call(t, |lent| lent::release(lent, area, frame, count, device))
     }
 
-    /// Stores the word of a granted frame.
-    pub fn device_store(&mut self, t: &mut Tables, frame: u64, word: u64) -> Answer {
-        self.call(t, |lent| lent::device_store(lent, frame, word))
+    /// Stores the word of a granted frame that is the device's own.
+    pub fn device_store(&mut self, t: &mut Tables, frame: u64, word: u64, device: u64) -> Answer {
+        self.call(t, |lent| lent::device_store(lent, frame, word, device))
     }
 
-    /// Reads the word of a granted frame. Answers it and 0.
-    pub fn device_read(&mut self, t: &mut Tables, frame: u64) -> Answer {
-        self.call(t, |lent| lent::device_read(lent, frame))
+    /// Reads the word of a granted frame that is the device's own. Answers it and 0.
+    pub fn device_read(&mut self, t: &mut Tables, frame: u64, device: u64) -> Answer {
+        self.call(t, |lent| lent::device_read(lent, frame, device))
     }
 }

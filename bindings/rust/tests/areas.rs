@@ -51,13 +51,17 @@ fn crowded(rng: &mut Rng, frames: u64, longest: u64, free: u64) -> State {
     };
     let marks: Vec<u32> = (0..frames).map(mark).collect();
     let bitmap = vec![0; machine.bitmap_words() as usize];
-    State { machine, marks, words: (0..frames).map(|place| 77 * place).collect(), bitmap }
+    let owners = (0..frames).map(|place| place as u32 % 5).collect();
+    State { machine, marks, words: (0..frames).map(|place| 77 * place).collect(), bitmap, owners }
 }
 
 fn call(rng: &mut Rng, state: &State, name: u64) -> Call {
     let area = rng.below(state.machine.declared);
     match rng.below(10) {
-        0..=5 => Call::Grant { area, count: rng.within(1, state.machine.areas[area as usize].count), align: rng.below(2) },
+        0..=5 => {
+            let count = rng.within(1, state.machine.areas[area as usize].count);
+            Call::Grant { area, count, align: rng.below(2), device: rng.within(1, 65_535) }
+        }
         6 => Call::PutMovable { name },
         7 => Call::PutFixed { name },
         _ => Call::Drop { name: rng.within(1, state.machine.frames) },

@@ -1,4 +1,4 @@
-//! Every call of the library is held against the reference: the answer, the record and all three tables.
+//! Every call of the library is held against the reference: the answer, the record and all four tables.
 
 mod held;
 
@@ -29,25 +29,47 @@ fn compare(held: &mut Held, before: &State, call: &Call, after: &State, expected
     let answer = held.make(call);
     if !held.agrees(answer, after, expected) {
         panic!(
-            "{call:?}\non {:?}, marks {:?}, bitmap {:x?}\nthe library answers {answer:?} and leaves {:?}\nthe reference {expected:?} and {:?}",
-            before.machine, before.marks, before.bitmap, held.machine, after.machine
+            "{call:?}\non {:?}, marks {:?}, bitmap {:x?}, owners {:?}\nthe library answers {answer:?} and leaves {:?}\nthe reference {expected:?} and {:?}",
+            before.machine, before.marks, before.bitmap, before.owners, held.machine, after.machine
         );
     }
 }
 
+/// The call by device 1, if it names a device.
+fn by_device_1(call: &Call) -> Option<Call> {
+    let mut call = call.clone();
+    match &mut call {
+        Call::Grant { device, .. }
+        | Call::Release { device, .. }
+        | Call::DeviceStore { device, .. }
+        | Call::DeviceRead { device, .. } => *device = 1,
+        _ => return None,
+    }
+    Some(call)
+}
+
 #[test]
 fn calls_on_any_record_and_tables() {
-    let mut counts = Counts::new();
+    let (mut counts, mut for_device) = (Counts::new(), Counts::new());
     for seed in 101..=104 {
         run(seed, 500_000, &mut |before, call, after, expected| {
             compare(&mut Held::of(before), before, call, after, expected);
             *counts.entry((call.kind(), expected.refusal)).or_default() += 1;
+            if expected.refusal == 2 {
+                let other = by_device_1(call).map_or(2, |call| before.clone().apply(&call).refusal);
+                *for_device.entry((call.kind(), 2)).or_default() += u64::from(other != 2);
+            }
         });
     }
     println!("{} calls agree; for each call, how often it gave each number:", counts.values().sum::<u64>());
     print_counts(&counts);
     assert_eq!(counts.keys().copied().collect::<Vec<_>>(), possible_pairs());
+    assert_eq!(counts.len(), 74);
     println!("all {} pairs of a call and a number that the rules allow were seen, and no other", counts.len());
+    for_device.retain(|_, times| *times > 0);
+    println!("of those refused with 2, for their device alone:");
+    for_device.iter().for_each(|((kind, _), times)| println!("{:>12}  {times}", CALLS[usize::from(*kind)]));
+    assert!(for_device.keys().map(|(kind, _)| *kind).eq(8..=11) && for_device.values().all(|&times| times > 100));
 }
 
 fn without_text(boot: &Call) -> Call {
@@ -121,10 +143,10 @@ fn lend(call: &Call, lent: Lent) {
         Call::Unpin { name } => lent::unpin(lent, *name),
         Call::Store { name, word } => lent::store(lent, *name, *word),
         Call::Read { name } => lent::read(lent, *name),
-        Call::Grant { area, count, align } => lent::grant(lent, *area, *count, *align),
-        Call::Release { area, frame, count } => lent::release(lent, *area, *frame, *count),
-        Call::DeviceStore { frame, word } => lent::device_store(lent, *frame, *word),
-        Call::DeviceRead { frame } => lent::device_read(lent, *frame),
+        Call::Grant { area, count, align, device } => lent::grant(lent, *area, *count, *align, *device),
+        Call::Release { area, frame, count, device } => lent::release(lent, *area, *frame, *count, *device),
+        Call::DeviceStore { frame, word, device } => lent::device_store(lent, *frame, *word, *device),
+        Call::DeviceRead { frame, device } => lent::device_read(lent, *frame, *device),
         // Any number but 0 means fixed.
         Call::Declare(r) => {
             let fixed = if r.fixed { r.base | 1 << 63 } else { 0 };
@@ -149,6 +171,7 @@ fn check_lengths(before: &State, call: &Call, after: &State, expected: Answer, l
             marks: &mut tables.marks,
             words: &mut tables.words,
             bitmap: &mut tables.bitmap,
+            owners: &mut tables.owners,
             answer: &mut answer,
         },
     );
@@ -162,7 +185,7 @@ fn check_lengths(before: &State, call: &Call, after: &State, expected: Answer, l
         _ => [expected.refusal, expected.first, expected.second],
     };
     assert_eq!(answer, resized(&written, lengths.1), "{call:?} {lengths:?}");
-    assert!(tables.marks == state.marks && tables.words == state.words && tables.bitmap == state.bitmap);
+    assert!(tables.marks == state.marks && tables.words == state.words && tables.bitmap == state.bitmap && tables.owners == state.owners);
 }
 
 #[test]

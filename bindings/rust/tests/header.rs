@@ -39,7 +39,7 @@ fn refusals_have_the_same_names_and_numbers() {
     // In C and Rust "none" would not say of what.
     library[0].0 = "DONE".to_string();
     assert_eq!(library, wrapped);
-    assert_eq!(library.len(), 21);
+    assert_eq!(library.len(), 22);
     let header = defines();
     for (name, number) in library {
         assert_eq!(header.get(&name), Some(&number), "{name}");
@@ -50,7 +50,7 @@ fn refusals_have_the_same_names_and_numbers() {
 fn limits_are_those_of_the_record() {
     // The limits are associated constants of the record's own type; a constant given by another's name is not read here.
     let limits = constants("crates/rules/src/lib.rt", "u64");
-    assert_eq!(limits.len(), 9);
+    assert_eq!(limits.len(), 11);
     let header = defines();
     for (name, number) in limits {
         assert_eq!(header.get(&name), Some(&number), "{name}");
@@ -72,6 +72,8 @@ fn limits_kinds_and_lengths_are_the_same() {
         ("MOST_AREAS", Machine::MAX_AREAS),
         ("LEAST_NAME", 1),
         ("MOST_NAME", Machine::MAX_NAME),
+        ("LEAST_DEVICE", 1),
+        ("MOST_DEVICE", Machine::MAX_DEVICE),
         ("MOST_ALIGN_ORDER", Machine::MAX_ALIGN_ORDER),
         ("MOST_BYTES", Machine::MAX_AMOUNT),
         ("MOST_TEXT", MAX_TEXT as u64),

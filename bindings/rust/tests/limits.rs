@@ -25,6 +25,7 @@ impl Both {
         state.marks.fill(9);
         state.words.fill(9);
         state.bitmap.fill(9);
+        state.owners.fill(9);
         Both { held: Held::of(&state), state }
     }
 
@@ -62,7 +63,15 @@ fn declare_at(frame: u64, frames: u64) -> Call {
 }
 
 fn grant(area: u64, count: u64) -> Call {
-    Call::Grant { area, count, align: 0 }
+    Call::Grant { area, count, align: 0, device: 1 }
+}
+
+fn release(area: u64, frame: u64, count: u64) -> Call {
+    Call::Release { area, frame, count, device: 1 }
+}
+
+fn device_read(frame: u64) -> Call {
+    Call::DeviceRead { frame, device: 1 }
 }
 
 /// So many regions of so many frames each, as `r10=4096;r11=4096`.
@@ -147,7 +156,7 @@ fn the_most_areas_by_declare() {
     assert_eq!(both.ask(grant(63, 1)), (0, 17, 0));
     assert_eq!(both.ask(grant(63, 1)), (7, 0, 0));
     assert_eq!(both.held.bitmap[62..], [0, 1, 0]);
-    assert_eq!(both.ask(Call::Release { area: 63, frame: 17, count: 1 }), (0, 0, 0));
+    assert_eq!(both.ask(release(63, 17, 1)), (0, 0, 0));
 }
 
 /// A page leaves the last area for an ordinary frame, of which the first 16 are all there are.
@@ -172,19 +181,19 @@ fn one_area_of_all_frames() {
     let mut both = Both::largest(b"all=1G");
     assert_eq!(both.ask(grant(0, MOST_FRAMES + 1)), (7, 0, 0));
     assert_eq!(both.ask(Call::PutFixed { name: 1 }), (6, 0, 0));
-    assert_eq!(both.ask(Call::Grant { area: 0, count: MOST_FRAMES, align: 16 }), (0, base, 0));
+    assert_eq!(both.ask(Call::Grant { area: 0, count: MOST_FRAMES, align: 16, device: 1 }), (0, base, 0));
     assert_eq!(both.held.marks[0], 8 * 262_144 + 4);
     assert_eq!(both.ask(grant(0, 1)), (7, 0, 0));
     assert_eq!(both.ask(Call::PutMovable { name: 1 }), (6, 0, 0));
-    assert_eq!(both.ask(Call::DeviceStore { frame: last, word: u64::MAX }), (0, 0, 0));
-    assert_eq!(both.ask(Call::DeviceRead { frame: last }), (0, u64::MAX, 0));
-    assert_eq!(both.ask(Call::DeviceRead { frame: last + 1 }), (2, 0, 0));
-    assert_eq!(both.ask(Call::Release { area: 0, frame: base, count: MOST_FRAMES + 1 }), (2, 0, 0));
-    assert_eq!(both.ask(Call::Release { area: 0, frame: base, count: MOST_FRAMES - 1 }), (9, 0, 0));
-    assert_eq!(both.ask(Call::Release { area: 0, frame: base, count: MOST_FRAMES }), (0, 0, 0));
-    assert_eq!(both.ask(Call::DeviceRead { frame: last }), (3, 0, 0));
+    assert_eq!(both.ask(Call::DeviceStore { frame: last, word: u64::MAX, device: 1 }), (0, 0, 0));
+    assert_eq!(both.ask(device_read(last)), (0, u64::MAX, 0));
+    assert_eq!(both.ask(device_read(last + 1)), (2, 0, 0));
+    assert_eq!(both.ask(release(0, base, MOST_FRAMES + 1)), (2, 0, 0));
+    assert_eq!(both.ask(release(0, base, MOST_FRAMES - 1)), (9, 0, 0));
+    assert_eq!(both.ask(release(0, base, MOST_FRAMES)), (0, 0, 0));
+    assert_eq!(both.ask(device_read(last)), (3, 0, 0));
     assert_eq!(both.ask(grant(0, MOST_FRAMES)), (0, base, 0));
-    assert_eq!(both.ask(Call::DeviceRead { frame: last }), (0, 0, 0));
+    assert_eq!(both.ask(device_read(last)), (0, 0, 0));
 }
 
 /// The last of the areas has the last words of the bitmap, and the lowest frames.
@@ -200,8 +209,8 @@ fn the_most_areas_in_the_most_frames() {
     assert_eq!(both.ask(grant(0, each)), (0, TOP - each, 0));
     let set: Vec<usize> = (0..4_096).filter(|&word| both.held.bitmap[word] != 0).collect();
     assert_eq!(set, (0..64).chain(4_032..4_096).collect::<Vec<_>>());
-    assert_eq!(both.ask(Call::Release { area: 63, frame: TOP - each, count: each }), (2, 0, 0));
-    assert_eq!(both.ask(Call::Release { area: 63, frame: base, count: each }), (0, 0, 0));
+    assert_eq!(both.ask(release(63, TOP - each, each)), (2, 0, 0));
+    assert_eq!(both.ask(release(63, base, each)), (0, 0, 0));
     assert_eq!(both.ask(Call::PutMovable { name: 5 }), (0, base, 0));
     assert_eq!(both.ask(declare(1)), (10, 0, 0));
 }
@@ -216,10 +225,10 @@ fn an_area_at_the_end_of_the_highest_memory() {
     assert_eq!(both.ask(declare(2)), (0, TOP - 3, 2));
     assert_eq!(both.ask(grant(0, 2)), (7, 0, 0));
     assert_eq!(both.ask(grant(0, 1)), (0, TOP - 1, 0));
-    assert_eq!(both.ask(Call::DeviceStore { frame: TOP - 1, word: 5 }), (0, 0, 0));
-    assert_eq!(both.ask(Call::DeviceRead { frame: TOP - 1 }), (0, 5, 0));
-    assert_eq!(both.ask(Call::DeviceRead { frame: TOP }), (2, 0, 0));
-    assert_eq!(both.ask(Call::Release { area: 0, frame: TOP - 1, count: 1 }), (0, 0, 0));
+    assert_eq!(both.ask(Call::DeviceStore { frame: TOP - 1, word: 5, device: 1 }), (0, 0, 0));
+    assert_eq!(both.ask(device_read(TOP - 1)), (0, 5, 0));
+    assert_eq!(both.ask(device_read(TOP)), (2, 0, 0));
+    assert_eq!(both.ask(release(0, TOP - 1, 1)), (0, 0, 0));
     // A text with such an area, and with one past it: 2^48 bytes less a page, and 2^48 bytes.
     assert_eq!(both.ask(boot(TOP - MOST_FRAMES, MOST_FRAMES, b"a=1@281474976710656")), (13, 0, 0));
     assert_eq!(both.ask(boot(TOP - MOST_FRAMES, MOST_FRAMES, b"a=1@281474976706560")), (0, 0, 0));
@@ -231,23 +240,25 @@ fn an_area_at_the_end_of_the_highest_memory() {
 fn a_record_of_28_numbers_is_refused() {
     for length in [28, Machine::NUMBERS - 1] {
         let mut machine = Machine::fresh();
-        let (mut marks, mut words, mut bitmap) = ([0; 8], [0; 8], [0; 1]);
-        let mut t = Tables { marks: &mut marks, words: &mut words, bitmap: &mut bitmap };
+        let (mut marks, mut words, mut bitmap, mut owners) = ([0; 8], [0; 8], [0; 1], [0; 8]);
+        let mut t = Tables { marks: &mut marks, words: &mut words, bitmap: &mut bitmap, owners: &mut owners };
         machine.boot(&mut t, 1, 8, 0, b"a=4096");
         assert_eq!(machine.declared(), 1);
         let calls: [fn(Lent); 4] = [
             |lent| lent::boot(lent, 1, 8, 0, b""),
             |lent| lent::declare(lent, 0, 1, 0, 0, 0, 0),
             |lent| lent::put_movable(lent, 7),
-            |lent| lent::grant(lent, 0, 1, 0),
+            |lent| lent::grant(lent, 0, 1, 0, 1),
         ];
         for call in calls {
             let mut record = machine.numbers[..length].to_vec();
             let mut answer = [5, 6, 7];
-            call(Lent { record: &mut record, marks: t.marks, words: t.words, bitmap: t.bitmap, answer: &mut answer });
+            let (marks, words, bitmap, owners) = (&mut *t.marks, &mut *t.words, &mut *t.bitmap, &mut *t.owners);
+            call(Lent { record: &mut record, marks, words, bitmap, owners, answer: &mut answer });
             assert_eq!(answer, [refusal::WRONG_SHAPE, 0, 0]);
             assert_eq!(record, machine.numbers[..length]);
             assert_eq!((&*t.marks, &*t.words, &*t.bitmap), (&[0; 8][..], &[0; 8][..], &[0][..]));
+            assert_eq!(t.owners, [0; 8]);
         }
     }
 }

@@ -87,6 +87,7 @@ fn play(
     marks: &mut [u32],
     words: &mut [u64],
     bitmap: &mut [u64],
+    owners: &mut [u32],
     text: usize,
 ) -> usize
     requires { ⌜ text ≤ length (now out) ⌝ }
@@ -100,7 +101,7 @@ fn play(
         text: headed,
         step: 0,
     };
-    let stopped = playback::answer_records(bytes, out, marks, words, bitmap, start);
+    let stopped = playback::answer_records(bytes, out, marks, words, bitmap, owners, start);
     let p = stopped.progress;
     let why = stopped.why;
     put_last(out, p, why)
@@ -114,13 +115,30 @@ fn play_from(bytes: &[u8], out: &mut [u8], from: usize) -> usize
     let mut marks = held::marks();
     let mut words = held::words();
     let mut bitmap = held::bitmap();
+    let mut owners = held::owners();
     let mut text = 0;
     let mut n = from;
     while n < bytes.len() {
-        text = play(&bytes[0..n], out, &mut marks, &mut words, &mut bitmap, text);
+        text = play(
+            &bytes[0..n],
+            out,
+            &mut marks,
+            &mut words,
+            &mut bitmap,
+            &mut owners,
+            text,
+        );
         n += 1;
     }
-    play(bytes, out, &mut marks, &mut words, &mut bitmap, text)
+    play(
+        bytes,
+        out,
+        &mut marks,
+        &mut words,
+        &mut bitmap,
+        &mut owners,
+        text,
+    )
 }
 
 // What a case gives, and how long that is.

@@ -107,6 +107,7 @@ fn put_boot(
     marks: &mut [u32],
     words: &mut [u64],
     bitmap: &mut [u64],
+    owners: &mut [u32],
     text: &[u8],
 ) -> usize
     requires { ⌜ at ≤ length (now out) ⌝ }
@@ -116,7 +117,17 @@ fn put_boot(
     let memory = fresh.memory;
     let mut areas = fresh.areas;
     let machine = Machine { memory };
-    let returned = machine.boot(&mut areas, marks, words, bitmap, Frame(4), 32, 2, text);
+    let returned = machine.boot(
+        &mut areas,
+        marks,
+        words,
+        bitmap,
+        owners,
+        Frame(4),
+        32,
+        2,
+        text,
+    );
     let a = returned.answer;
     let told = put_three(out, at, b" boot", a.refusal, a.first, a.second);
     put_areas(out, told, &areas, returned.machine.memory.declared)
@@ -129,13 +140,14 @@ fn put_text(
     marks: &mut [u32],
     words: &mut [u64],
     bitmap: &mut [u64],
+    owners: &mut [u32],
     text: &[u8],
 ) -> usize
     requires { ⌜ at ≤ length (now out) ⌝ }
     ensures { λ r. ⌜ r ≤ length (now (out .entry)) ⌝ }
 {
     let read = put_read(out, at, regions::read_regions(text));
-    let booted = put_boot(out, read, marks, words, bitmap, text);
+    let booted = put_boot(out, read, marks, words, bitmap, owners, text);
     put_bytes(out, booted, b"\n")
 }
 
@@ -146,6 +158,7 @@ pub fn answer_texts(list: &[u8], out: &mut [u8]) -> usize
     let mut marks = [0u32; 32];
     let mut words = [0u64; 32];
     let mut bitmap = held::bitmap();
+    let mut owners = [0u32; 32];
     let mut text = 0;
     let mut at = 0;
     while at < list.len() {
@@ -156,6 +169,7 @@ pub fn answer_texts(list: &[u8], out: &mut [u8]) -> usize
             &mut marks,
             &mut words,
             &mut bitmap,
+            &mut owners,
             &list[at..end],
         );
         at = end + 1;

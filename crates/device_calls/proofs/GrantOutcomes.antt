@@ -25,14 +25,14 @@ use Rattle.frames.specs.Units.{place, mostNumber}
 use Rattle.frames.specs.Marks.{hasKind, movable}
 use Rattle.frames.specs.Areas.{bitCount, bitsFor, frameOfBit}
 use Rattle.frames.specs.Scans.{marked, isFreeOrdinary}
-use Rattle.frames.specs.Tables.{Tables, tables, fill, withBitmap}
+use Rattle.frames.specs.Tables.{Tables, tables, fill, withBitmap, withOwners}
 use Rattle.rules.specs.declared.Record.{Record}
 use Rattle.rules.specs.Record.{areaAt, isOrdinary}
-use Rattle.rules.specs.Limits.{mostAreas, mostFrames, mostBlockOrder, mostAlignOrder}
+use Rattle.rules.specs.Limits.{mostAreas, mostFrames, mostBlockOrder, mostAlignOrder, leastDevice, mostDevice}
 use Rattle.rules.specs.Shape.{shapeRight}
 use Rattle.rules.specs.Outcomes.{outcome, refuse, First, here, there, Passed}
 use Rattle.rules.specs.PageCalls.{freeOrdinary}
-use Rattle.rules.specs.DeviceCalls.{isUnknown, bitmapOf, placeOfBit, isCandidate, isGrantable, chosen, movers, targets, moveOut, markRun, takeRun, grantChecks, grant}
+use Rattle.rules.specs.DeviceCalls.{badDevice, isUnknown, bitmapOf, placeOfBit, isCandidate, isGrantable, chosen, movers, targets, moveOut, markRun, takeRun, grantChecks, grant}
 use Rattle.rules.proofs.Checks.{checked-first, checked-stop, checked-pass, checked-end}
 use Rattle.rules.proofs.Shapes.{shape-known}
 use Rattle.rules.proofs.AreaRight.{area-known, in-area}
@@ -43,26 +43,33 @@ use Rattle.device_calls.specs.steps.Refusals.{firstNumber}
 use Rattle.device_calls.specs.steps.DeviceSteps.{SearchFits, RunFits}
 use Rattle.device_calls.proofs.RefusalFacts.{refused-first, passed-by}
 use Rattle.device_calls.proofs.Alignment.{lower-multiple}
-use Rattle.device_calls.proofs.MoveFacts.{out-bitmap}
+use Rattle.device_calls.proofs.MoveFacts.{out-others}
 
 -- ---- the tables after a run is taken
 pub run-marked : (ms ws : List ℕ) {ms₁ ws₁ ms₂ ws₂ : List ℕ} (p : Place) (count : ℕ) → ms₁ ≡ set ms (p .0) (count * 8 + 4) → ws₁ ≡ set ws (p .0) 0 →
-    ms₂ ≡ fill ms₁ (p .0 + 1) (count - 1) 5 → ws₂ ≡ fill ws₁ (p .0 + 1) (count - 1) 0 → tables ms₂ ws₂ [] ≡ markRun (tables ms ws []) p count
+    ms₂ ≡ fill ms₁ (p .0 + 1) (count - 1) 5 → ws₂ ≡ fill ws₁ (p .0 + 1) (count - 1) 0 → tables ms₂ ws₂ [] [] ≡ markRun (tables ms ws [] []) p count
 run-marked ms ws p count a b c d = rw (c, d, a, b, add-one (p .0), mul-comm count 8)
 
 module _ (m : Record) (t : Tables) (i count : ℕ) (j : Bit) where
   abbrev first : Place
   first = placeOfBit m i j
 
-  pub taken : {ms₁ ws₁ ms₂ ws₂ bs : List ℕ} {p : Place} {start n : ℕ} → p ≡ first → tables ms₁ ws₁ [] ≡ moveOut m (withBitmap t []) p count → tables ms₂ ws₂ [] ≡ markRun (tables ms₁ ws₁ []) p count →
-      start ≡ bitmapOf m i → n ≡ bitsFor (areaAt m i) count → bs ≡ setBits (t .bitmap) start (j .0) n → tables ms₂ ws₂ bs ≡ takeRun m t i count j
+  -- tables with another bitmap and other owners
+  abbrev beside : List ℕ → List ℕ → Tables → Tables
+  beside bs os x = withOwners (withBitmap x bs) os
+
+  pub taken : (device : ℕ) {ms₁ ws₁ ms₂ ws₂ bs os : List ℕ} {p : Place} {start n : ℕ} → p ≡ first → tables ms₁ ws₁ [] [] ≡ moveOut m (tables (t .marks) (t .words) [] []) p count →
+      tables ms₂ ws₂ [] [] ≡ markRun (tables ms₁ ws₁ [] []) p count → start ≡ bitmapOf m i → n ≡ bitsFor (areaAt m i) count → bs ≡ setBits (t .bitmap) start (j .0) n →
+      os ≡ fill (t .owners) (p .0) count device → tables ms₂ ws₂ bs os ≡ takeRun m t i count j device
   unfolding takeRun
-  taken {ms₁} {ws₁} {ms₂} {ws₂} {bs} {p} {start} {n} e out marks st ns bits =
-      let moved : withBitmap (tables ms₁ ws₁ []) (t .bitmap) ≡ moveOut m t first count =
-      ap (λ (x : Tables). withBitmap x (t .bitmap)) (out ∙ ap (λ (y : Place). moveOut m (withBitmap t []) y count) e) ∙ out-bitmap m (t .bitmap) (withBitmap t []) first count in
-      ap (λ (x : Tables). withBitmap x bs) (marks ∙ ap (λ (y : Place). markRun (tables ms₁ ws₁ []) y count) e) ∙
-      ap (λ (x : Tables). withBitmap (markRun x first count) bs) moved ∙
-      ap (λ (x : List ℕ). withBitmap (markRun (moveOut m t first count) first count) x) (bits ∙ ap₂ (λ (x y : ℕ). setBits (t .bitmap) x (j .0) y) st ns)
+  taken device {ms₁} {ws₁} {ms₂} {ws₂} {bs} {os} {p} {start} {n} e out marks st ns bits owners =
+      let moved : beside (t .bitmap) (t .owners) (tables ms₁ ws₁ [] []) ≡ moveOut m t first count =
+      ap (beside (t .bitmap) (t .owners)) (out ∙ ap (λ (y : Place). moveOut m (tables (t .marks) (t .words) [] []) y count) e) ∙
+      out-others m (t .bitmap) (t .owners) (tables (t .marks) (t .words) [] []) first count in
+      ap (beside bs os) (marks ∙ ap (λ (y : Place). markRun (tables ms₁ ws₁ [] []) y count) e) ∙
+      ap (λ (x : Tables). beside bs os (markRun x first count)) moved ∙
+      ap₂ (λ (x y : List ℕ). beside x y (markRun (moveOut m t first count) first count)) (bits ∙ ap₂ (λ (x y : ℕ). setBits (t .bitmap) x (j .0) y) st ns)
+      (owners ∙ ap (λ (y : Place). fill (t .owners) (y .0) count device) e)
 
   targets-found : length (t .marks) ≡ m .memory .frames → howMany (isFreeOrdinary (t .marks) (m .memory .base) (m .areas) (m .memory .declared)) 0 (length (t .marks)) ≡ targets m t
   unfolding targets freeOrdinary isFreeOrdinary
@@ -101,21 +108,21 @@ module _ (m : Record) (t : Tables) (i count : ℕ) (j : Bit) where
         held = λ q u v. in-area m i q (f .known) (omega (arith, r .low)) (omega (arith, r .low, f .in-area));
       }
 
-module _ (m : Record) (i count align : ℕ) (t : Tables) where
+module _ (m : Record) (i count align device : ℕ) (t : Tables) where
   -- ---- the checks before a run is looked for
-  widened : {n : ℕ} → First (take 2 (grantChecks m i count align t)) n → First (grantChecks m i count align t) n
+  widened : {n : ℕ} → First (take 2 (grantChecks m i count align device t)) n → First (grantChecks m i count align device t) n
   widened (here e) = here e
   widened (there e (here f)) = there e (here f)
 
-  pub grant-refused : {n : ℕ} → n ≡ firstNumber (take 2 (grantChecks m i count align t)) → (n ≡ 0 → ⊥) → grant m i count align t ≡ refuse m t n
+  pub grant-refused : {n : ℕ} → n ≡ firstNumber (take 2 (grantChecks m i count align device t)) → (n ≡ 0 → ⊥) → grant m i count align device t ≡ refuse m t n
   unfolding grant
   grant-refused e z = checked-first m t _ (widened (refused-first e z))
 
-  pub request-passed : {n : ℕ} → n ≡ firstNumber (take 2 (grantChecks m i count align t)) → n ≡ 0 → Passed (take 2 (grantChecks m i count align t))
-  request-passed e z = passed-by (take 2 (grantChecks m i count align t)) refl e z
+  pub request-passed : {n : ℕ} → n ≡ firstNumber (take 2 (grantChecks m i count align device t)) → n ≡ 0 → Passed (take 2 (grantChecks m i count align device t))
+  request-passed e z = passed-by (take 2 (grantChecks m i count align device t)) refl e z
 
   -- they pass
-  module _ (passed : Passed (take 2 (grantChecks m i count align t))) where
+  module _ (passed : Passed (take 2 (grantChecks m i count align device t))) where
     shaped : shapeRight m t ≡ true
     shaped = not-flips (shapeRight m t) (passed .0)
 
@@ -128,11 +135,18 @@ module _ (m : Record) (i count align : ℕ) (t : Tables) where
     abbrev tooAligned : Bool
     tooAligned = ltb mostAlignOrder align
 
+    range : (unknown || none || tooAligned) ≡ false
+    range = or-left (unknown || none || tooAligned) (badDevice device) (passed .1 .0)
+
+    -- the device's number is one of a mark's width
+    pub device-high : device ≤ mostDevice
+    device-high = ltb-false mostDevice device (or-right (ltb device leastDevice) (ltb mostDevice device) (or-right (unknown || none || tooAligned) (badDevice device) (passed .1 .0)))
+
     known : i < m .memory .declared
-    known = leb-false (m .memory .declared) i (or-left unknown none (or-left (unknown || none) tooAligned (passed .1 .0)))
+    known = leb-false (m .memory .declared) i (or-left unknown none (or-left (unknown || none) tooAligned range))
 
     positive : 0 < count
-    positive = below-or-not 0 count (λ h. h) (λ h. absurd (eqb-false count 0 (or-right unknown none (or-left (unknown || none) tooAligned (passed .1 .0))) (omega arith)))
+    positive = below-or-not 0 count (λ h. h) (λ h. absurd (eqb-false count 0 (or-right unknown none (or-left (unknown || none) tooAligned range)) (omega arith)))
 
     pub search-fits : SearchFits m i count align
     search-fits =
@@ -140,7 +154,7 @@ module _ (m : Record) (i count align : ℕ) (t : Tables) where
         let r = area-known m t k i known in
         record {
           positive = positive;
-          align-high = ltb-false mostAlignOrder align (or-right (unknown || none) tooAligned (passed .1 .0));
+          align-high = ltb-false mostAlignOrder align (or-right (unknown || none) tooAligned range);
           bit-high = omega (arith, r .order, k .memory .order-high);
           begins = lower-multiple (areaAt m i .base .0) (areaAt m i .«order_per_bit») (m .memory .«block_order») (r .order) (eqb-true _ 0 (r .first));
           end-high = omega (arith, r .high, k .memory .end-high);
@@ -149,7 +163,7 @@ module _ (m : Record) (i count align : ℕ) (t : Tables) where
         }
 
     -- ---- the search, which looks at no words
-    module _ {r : Bit} (e : r ≡ chosen m (tables (t .marks) [] (t .bitmap)) i count align) where
+    module _ {r : Bit} (e : r ≡ chosen m (tables (t .marks) [] (t .bitmap) []) i count align) where
       chosen-is : chosen m t i count align ≡ r
       unfolding chosen isGrantable isCandidate
       chosen-is = sym e
@@ -160,7 +174,7 @@ module _ (m : Record) (i count align : ℕ) (t : Tables) where
       none-left : leb all (chosen m t i count align .0) ≡ leb all (r .0)
       none-left = ap (λ (x : Bit). leb all (x .0)) chosen-is
 
-      pub none-found : all ≤ r .0 → grant m i count align t ≡ refuse m t 7
+      pub none-found : all ≤ r .0 → grant m i count align device t ≡ refuse m t 7
       unfolding grant
       none-found h = checked-pass m t _ _ _ (passed .0) ∙ checked-pass m t _ _ _ (passed .1 .0) ∙ checked-stop m t _ _ _ (none-left ∙ le-leb all (r .0) h)
 
@@ -191,17 +205,17 @@ module _ (m : Record) (i count align : ℕ) (t : Tables) where
           too-few : ltb (targets m t) (movers t (placeOfBit m i (chosen m t i count align)) count) ≡ ltb (targets m t) n
           too-few = ap (λ (x : Bit). ltb (targets m t) (movers t (placeOfBit m i x) count)) chosen-is ∙ ap (ltb (targets m t)) (sym is-movers)
 
-          pub nowhere : h ≡ false → grant m i count align t ≡ refuse m t 8
+          pub nowhere : h ≡ false → grant m i count align device t ≡ refuse m t 8
           unfolding grant
           nowhere f =
               checked-pass m t _ _ _ (passed .0) ∙ checked-pass m t _ _ _ (passed .1 .0) ∙ checked-pass m t _ _ _ (none-left ∙ lt-leb all (r .0) found) ∙
               checked-stop m t _ _ _ (too-few ∙ lt-ltb (targets m t) n (leb-false n (targets m t) (sym is-enough ∙ f)))
 
-          pub granted : {f : Frame} {u : Tables} → h ≡ true → f ≡ frameOfBit (areaAt m i) r → u ≡ takeRun m t i count r → grant m i count align t ≡ outcome m (done (f .0) n) u
+          pub granted : {f : Frame} {u : Tables} → h ≡ true → f ≡ frameOfBit (areaAt m i) r → u ≡ takeRun m t i count r device → grant m i count align device t ≡ outcome m (done (f .0) n) u
           unfolding grant
           granted {f} {u} y fe ue =
               checked-pass m t _ _ _ (passed .0) ∙ checked-pass m t _ _ _ (passed .1 .0) ∙ checked-pass m t _ _ _ (none-left ∙ lt-leb all (r .0) found) ∙
               checked-pass m t _ _ _ (too-few ∙ le-ltb (targets m t) n (leb-true n (targets m t) (sym is-enough ∙ y))) ∙ checked-end m t _ ∙
-              ap (λ (x : Bit). outcome m (done (frameOfBit (areaAt m i) x .0) (movers t (placeOfBit m i x) count)) (takeRun m t i count x)) chosen-is ∙
-              ap (λ (x : Frame). outcome m (done (x .0) (movers t (placeOfBit m i r) count)) (takeRun m t i count r)) (sym fe) ∙
+              ap (λ (x : Bit). outcome m (done (frameOfBit (areaAt m i) x .0) (movers t (placeOfBit m i x) count)) (takeRun m t i count x device)) chosen-is ∙
+              ap (λ (x : Frame). outcome m (done (x .0) (movers t (placeOfBit m i r) count)) (takeRun m t i count r device)) (sym fe) ∙
               ap₂ (λ (k : ℕ) (x : Tables). outcome m (done (f .0) k) x) (sym is-movers) (sym ue)

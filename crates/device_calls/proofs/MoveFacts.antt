@@ -3,7 +3,7 @@
 --     not-before               a search answers no place below its first
 --     Moving, moving-start, moving-turn, moving-end    a loop that goes from one movable page to the next: what is moved, and that no place
 --                              below the last target is free and ordinary
---     out-bitmap               the bitmap plays no part
+--     out-others               the bitmap and the owners play no part
 use Prim.Native.Nat.{ℕ, zero, suc, _+_, _-_, _≤_, _<_}
 use native.Mathlib.Omega.{arith}
 use native.Mathlib.Numerals.{add-one}
@@ -21,7 +21,7 @@ use Rattle.frames.specs.declared.Place.{Place}
 use Rattle.frames.specs.Units.{place}
 use Rattle.frames.specs.Marks.{hasKind, free, movable}
 use Rattle.frames.specs.Scans.{marked, isFreeOrdinary}
-use Rattle.frames.specs.Tables.{Tables, tables, markAt, wordAt, fill, withBitmap}
+use Rattle.frames.specs.Tables.{Tables, tables, markAt, wordAt, fill, withBitmap, withOwners}
 use Rattle.frames.proofs.FillFacts.{fill-none, fill-suc}
 use Rattle.rules.specs.declared.Record.{Record}
 use Rattle.rules.specs.Record.{isOrdinary}
@@ -33,8 +33,8 @@ use Rattle.device_calls.specs.steps.DeviceSteps.{pageMoved}
 fill-one : (l : List ℕ) (i v : ℕ) → fill l i 1 v ≡ set l i v
 fill-one l i v = fill-suc v l i 0 ∙ fill-none v (set l i v) (suc i)
 
-pub moved-by : (t : Tables) (p q : Place) {ms ws : List ℕ} → ms ≡ fill (t .marks) (q .0) 1 (markAt t p) → ws ≡ fill (t .words) (q .0) 1 (wordAt t p) → tables (set ms (p .0) 0) (set ws (p .0) 0) (t .bitmap) ≡ pageMoved t p q
-moved-by t p q e f = ap₂ (λ (x y : List ℕ). tables (set x (p .0) 0) (set y (p .0) 0) (t .bitmap)) (e ∙ fill-one _ _ _) (f ∙ fill-one _ _ _)
+pub moved-by : (t : Tables) (p q : Place) {ms ws : List ℕ} → ms ≡ fill (t .marks) (q .0) 1 (markAt t p) → ws ≡ fill (t .words) (q .0) 1 (wordAt t p) → tables (set ms (p .0) 0) (set ws (p .0) 0) (t .bitmap) (t .owners) ≡ pageMoved t p q
+moved-by t p q e f = ap₂ (λ (x y : List ℕ). tables (set x (p .0) 0) (set y (p .0) 0) (t .bitmap) (t .owners)) (e ∙ fill-one _ _ _) (f ∙ fill-one _ _ _)
 
 -- ---- where a page goes
 module _ (m : Record) where
@@ -134,19 +134,22 @@ module _ (m : Record) where
       out-pass t from (at - from) (end - at) (λ k u v. l .miss k u (omega (arith, l .low))) ∙
       ap (λ (x : ℕ). moveOut m t (place x) (end - at)) (omega (arith, l .low))
 
-  -- ---- the bitmap plays no part
-  module _ (b : List ℕ) where
-    move-bitmap : (t : Tables) (p : Place) → withBitmap (movePage m t p) b ≡ movePage m (withBitmap t b) p
-    unfolding freeOrdinary
-    move-bitmap t p =
-        by-cases (moves t (p .0)) (λ e. ap (λ (x : Tables). withBitmap x b) (goes t p e) ∙ sym (goes (withBitmap t b) p e))
-        (λ e. ap (λ (x : Tables). withBitmap x b) (stays t p e) ∙ sym (stays (withBitmap t b) p e))
+  -- ---- the bitmap and the owners play no part
+  module _ (b o : List ℕ) where
+    abbrev beside : Tables → Tables
+    beside t = withOwners (withBitmap t b) o
 
-    pub out-bitmap : (t : Tables) (p : Place) (d : ℕ) → withBitmap (moveOut m t p d) b ≡ moveOut m (withBitmap t b) p d
-    out-bitmap t p zero = ap (λ (x : Tables). withBitmap x b) (out-zero t p) ∙ sym (out-zero (withBitmap t b) p)
-    out-bitmap t p (suc d) =
-        ap (λ (x : Tables). withBitmap x b) (out-suc t p d) ∙ out-bitmap (movePage m t p) (place (suc (p .0))) d ∙
-        ap (λ (x : Tables). moveOut m x (place (suc (p .0))) d) (move-bitmap t p) ∙ sym (out-suc (withBitmap t b) p d)
+    move-others : (t : Tables) (p : Place) → beside (movePage m t p) ≡ movePage m (beside t) p
+    unfolding freeOrdinary
+    move-others t p =
+        by-cases (moves t (p .0)) (λ e. ap (λ (x : Tables). beside x) (goes t p e) ∙ sym (goes (beside t) p e))
+        (λ e. ap (λ (x : Tables). beside x) (stays t p e) ∙ sym (stays (beside t) p e))
+
+    pub out-others : (t : Tables) (p : Place) (d : ℕ) → beside (moveOut m t p d) ≡ moveOut m (beside t) p d
+    out-others t p zero = ap (λ (x : Tables). beside x) (out-zero t p) ∙ sym (out-zero (beside t) p)
+    out-others t p (suc d) =
+        ap (λ (x : Tables). beside x) (out-suc t p d) ∙ out-others (movePage m t p) (place (suc (p .0))) d ∙
+        ap (λ (x : Tables). moveOut m x (place (suc (p .0))) d) (move-others t p) ∙ sym (out-suc (beside t) p d)
 
 -- ---- a loop over the movable pages of a run, from its first movable place on
 module _ (m : Record) (t₀ : Tables) (first end : ℕ) where

@@ -8,7 +8,7 @@ use mathlib.Core.Path.{_≡_, refl, sym, ap, _∙_}
 use mathlib.Core.Bool.{Bool, true, false, not, _||_}
 use mathlib.Core.List.{List}
 use lib.Dec.{ltb, eqb}
-use lib.ListN.{length, take}
+use lib.ListN.{length}
 use borrow.Author.Tests.{ltb-false, leb-false, eqb-false, lt-ltb, le-ltb, eq-eqb, ne-eqb}
 use Rattle.search.proofs.Bools.{below-or-not, or-left, or-right, not-flips}
 use Rattle.answer.specs.Answers.{done}
@@ -26,7 +26,8 @@ use Rattle.rules.specs.Limits.{mostBlockOrder}
 use Rattle.rules.specs.Shape.{shapeRight}
 use Rattle.rules.specs.Outcomes.{outcome, refuse, Passed}
 use Rattle.device_calls.specs.steps.Refusals.{firstNumber}
-use Rattle.rules.specs.DeviceCalls.{bitmapOf, isUnknown, outsideArea, offBit, freeRun, releaseChecks, release}
+use Rattle.device_calls.specs.steps.DeviceSteps.{RangeFits}
+use Rattle.rules.specs.DeviceCalls.{badDevice, bitmapOf, isUnknown, outsideArea, offBit, freeRun, releaseChecks, release}
 use Rattle.rules.proofs.Checks.{checked-passed}
 use Rattle.device_calls.proofs.RefusalFacts.{refused-by, passed-by}
 use Rattle.rules.proofs.Shapes.{shape-known}
@@ -67,6 +68,7 @@ module _ (m : Record) (i : ℕ) (f : Frame) (count : ℕ) (t : Tables) where
     pub order : areaAt m i .«order_per_bit» ≤ mostBlockOrder
     pub in-area : areaAt m i .base .0 ≤ f .0
     pub in-marks : f .0 - m .memory .base .0 < length (t .marks)
+    pub in-owners : f .0 - m .memory .base .0 < length (t .owners)
     pub positive : 0 < count
     pub words-high : bitmapOf m i ≤ mostNumber
 
@@ -89,26 +91,31 @@ module _ (m : Record) (i : ℕ) (f : Frame) (count : ℕ) (t : Tables) where
         order = omega (arith, r .order, k .memory .order-high);
         in-area = low;
         in-marks = omega (arith, r .low, r .high, k .marks-length);
+        in-owners = omega (arith, r .low, r .high, k .owners-length);
         positive = positive;
         words-high = omega (arith, first-word-exact m t s i (let h : i ≤ m .memory .declared = omega arith in h));
       }
 
-  pub range-passed : Passed (take 2 (releaseChecks m i f count t)) → Ranged
-  range-passed p = ranged (not-flips (shapeRight m t) (p .0)) (p .1 .0)
+  -- what the checks of a release by a device say
+  module _ (device : ℕ) where
+    pub range-fits : Passed (releaseChecks m i f count device t) → RangeFits m t i f count
+    range-fits p = record { shape = not-flips (shapeRight m t) (p .0); range = or-left badRange (badDevice device) (p .1 .0) }
 
-  pub release-passed : {n : ℕ} → n ≡ firstNumber (releaseChecks m i f count t) → n ≡ 0 → Passed (releaseChecks m i f count t)
-  release-passed e z = passed-by (releaseChecks m i f count t) refl e z
+    pub release-passed : {n : ℕ} → n ≡ firstNumber (releaseChecks m i f count device t) → n ≡ 0 → Passed (releaseChecks m i f count device t)
+    release-passed e z = passed-by (releaseChecks m i f count device t) refl e z
 
-  pub release-refused : {n : ℕ} → n ≡ firstNumber (releaseChecks m i f count t) → (n ≡ 0 → ⊥) → release m i f count t ≡ refuse m t n
-  unfolding release
-  release-refused e z = refused-by (releaseChecks m i f count t) m t _ e z
+    pub release-refused : {n : ℕ} → n ≡ firstNumber (releaseChecks m i f count device t) → (n ≡ 0 → ⊥) → release m i f count device t ≡ refuse m t n
+    unfolding release
+    release-refused e z = refused-by (releaseChecks m i f count device t) m t _ e z
 
-  pub release-done : {u : Tables} → Passed (releaseChecks m i f count t) → u ≡ freeRun m t i f count → release m i f count t ≡ outcome m (done 0 0) u
-  unfolding release
-  release-done p e = checked-passed m t _ _ p ∙ ap (λ (x : Tables). outcome m (done 0 0) x) (sym e)
+    pub release-done :
+        {u : Tables} → Passed (releaseChecks m i f count device t) → u ≡ freeRun m t i f count → release m i f count device t ≡ outcome m (done 0 0) u
+    unfolding release
+    release-done p e = checked-passed m t _ _ p ∙ ap (λ (x : Tables). outcome m (done 0 0) x) (sym e)
 
   -- the run's frames and bits
-  pub freed : {marks words bitmap : List ℕ} {p : Place} {first : Bit} {start bits : ℕ} → p ≡ placeOf m f → start ≡ bitmapOf m i → first ≡ bitOfFrame (areaAt m i) f → bits ≡ bitsFor (areaAt m i) count →
-      marks ≡ fill (t .marks) (p .0) count 0 → words ≡ fill (t .words) (p .0) count 0 → bitmap ≡ clearBits (t .bitmap) start (first .0) bits → tables marks words bitmap ≡ freeRun m t i f count
+  pub freed : {marks words bitmap owners : List ℕ} {p : Place} {first : Bit} {start bits : ℕ} → p ≡ placeOf m f → start ≡ bitmapOf m i → first ≡ bitOfFrame (areaAt m i) f → bits ≡ bitsFor (areaAt m i) count →
+      marks ≡ fill (t .marks) (p .0) count 0 → words ≡ fill (t .words) (p .0) count 0 → bitmap ≡ clearBits (t .bitmap) start (first .0) bits →
+      owners ≡ fill (t .owners) (p .0) count 0 → tables marks words bitmap owners ≡ freeRun m t i f count
   unfolding freeRun
-  freed e st fi bi ms ws bs = rw (ms, ws, bs, e, st, fi, bi)
+  freed e st fi bi ms ws bs os = rw (ms, ws, bs, os, e, st, fi, bi)

@@ -11,7 +11,7 @@ ghost use Rattle.frames.specs.Scans.{marked};
 ghost use Rattle.rules.specs.Record.{areaAt};
 ghost use Rattle.rules.specs.Limits.{mostEnd, mostBlockOrder, mostAlignOrder};
 ghost use Rattle.rules.specs.Does.{given};
-ghost use Rattle.rules.specs.DeviceCalls.{isUnknown, outsideMemory, deviceChecks, outsideArea, offBit, releaseChecks, grantChecks};
+ghost use Rattle.rules.specs.DeviceCalls.{badDevice, isUnknown, outsideMemory, deviceChecks, outsideArea, offBit, releaseChecks, grantChecks};
 ghost use Rattle.device_calls.specs.steps.Refusals.{firstNumber};
 use crate::units::block_of;
 use answer::refusal;
@@ -37,6 +37,25 @@ fn is_granted(mark: u32) -> bool
     mark % 8 == LATER
 }
 
+// No device has that number.
+fn is_bad_device(device: u64) -> bool
+    ensures { λ r. ⌜ r ≡ badDevice device ⌝ }
+{
+    if device < Record::LEAST_DEVICE {
+        return true;
+    }
+    Record::MOST_DEVICE < device
+}
+
+// The frame at a place has another owner, or none.
+fn is_not_owner(owners: &[u32], page: Place, device: u64) -> bool
+    requires { ⌜ page .0 < length (now owners) ⌝ }
+    ensures { λ r. ⌜ r ≡ not (eqb (getD (now (owners .entry)) (page .0) 0) device) ⌝ }
+{
+    let at = page.0;
+    owners[at] as u64 != device
+}
+
 // The frame is none of memory.
 fn is_outside(memory: Memory, frame: Frame) -> bool
     requires { ⌜ memory .base .0 + memory .frames ≤ mostEnd ⌝ }
@@ -48,6 +67,17 @@ fn is_outside(memory: Memory, frame: Frame) -> bool
     memory.base.0 + memory.frames <= frame.0
 }
 
+// An argument of a device store or a device read is outside its range.
+fn is_bad_frame(memory: Memory, frame: Frame, device: u64) -> bool
+    requires { ⌜ memory .base .0 + memory .frames ≤ mostEnd ⌝ }
+    ensures { λ r. ⌜ r ≡ (outsideMemory memory frame || badDevice device) ⌝ }
+{
+    if is_outside(memory, frame) {
+        return true;
+    }
+    is_bad_device(device)
+}
+
 // Why a device may not store to a frame, or read it; or that it may.
 pub(crate) fn device_refusal(
     memory: Memory,
@@ -55,20 +85,25 @@ pub(crate) fn device_refusal(
     marks: &[u32],
     words: &[u64],
     bitmap: &[u64],
+    owners: &[u32],
     frame: Frame,
+    device: u64,
 ) -> u64
-    ensures { λ r. ⌜ r ≡ firstNumber (deviceChecks (given memory areas) frame (entering marks words bitmap)) ⌝ }
+    ensures { λ r. ⌜ r ≡ firstNumber (deviceChecks (given memory areas) frame device (entering marks words bitmap owners)) ⌝ }
 {
-    if !shape_right(memory, areas, marks, words, bitmap) {
+    if !shape_right(memory, areas, marks, words, bitmap, owners) {
         return refusal::WRONG_SHAPE;
     }
-    if is_outside(memory, frame) {
+    if is_bad_frame(memory, frame, device) {
         return refusal::OUT_OF_RANGE;
     }
     let page = place_of(memory.base, frame);
     let at = page.0;
     if !is_granted(marks[at]) {
         return refusal::NOT_LIVE;
+    }
+    if is_not_owner(owners, page, device) {
+        return refusal::NOT_OWNER;
     }
     refusal::NONE
 }
@@ -87,7 +122,7 @@ fn is_outside_area(a: Area, frame: Frame, count: u64) -> bool
     a.count - past < count
 }
 
-// An argument of a release is outside its range.
+// The area of a release is not known, its count is 0, or its range is not inside the area.
 fn is_bad_range(memory: Memory, areas: &[u64], area: u64, frame: Frame, count: u64) -> bool
     ensures { λ r. ⌜ r ≡ (isUnknown memory area || eqb count 0 || outsideArea (areaAt (given memory areas) area) frame count) ⌝ }
 {
@@ -99,6 +134,23 @@ fn is_bad_range(memory: Memory, areas: &[u64], area: u64, frame: Frame, count: u
     }
     let a = area_at(areas, area as usize);
     is_outside_area(a, frame, count)
+}
+
+// An argument of a release is outside its range.
+fn is_bad_release(
+    memory: Memory,
+    areas: &[u64],
+    area: u64,
+    frame: Frame,
+    count: u64,
+    device: u64,
+) -> bool
+    ensures { λ r. ⌜ r ≡ (isUnknown memory area || eqb count 0 || outsideArea (areaAt (given memory areas) area) frame count || badDevice device) ⌝ }
+{
+    if is_bad_range(memory, areas, area, frame, count) {
+        return true;
+    }
+    is_bad_device(device)
 }
 
 // A frame of an area is not the first of a bit, or not the first of a grant.
@@ -134,22 +186,27 @@ pub(crate) fn release_refusal(
     marks: &[u32],
     words: &[u64],
     bitmap: &[u64],
+    owners: &[u32],
     area: u64,
     frame: Frame,
     count: u64,
+    device: u64,
 ) -> u64
-    ensures { λ r. ⌜ r ≡ firstNumber (releaseChecks (given memory areas) area frame count (entering marks words bitmap)) ⌝ }
+    ensures { λ r. ⌜ r ≡ firstNumber (releaseChecks (given memory areas) area frame count device (entering marks words bitmap owners)) ⌝ }
 {
-    if !shape_right(memory, areas, marks, words, bitmap) {
+    if !shape_right(memory, areas, marks, words, bitmap, owners) {
         return refusal::WRONG_SHAPE;
     }
-    if is_bad_range(memory, areas, area, frame, count) {
+    if is_bad_release(memory, areas, area, frame, count, device) {
         return refusal::OUT_OF_RANGE;
     }
     let a = area_at(areas, area as usize);
     let page = place_of(memory.base, frame);
     if is_no_head(marks, page, a, frame) {
         return refusal::NOT_LIVE;
+    }
+    if is_not_owner(owners, page, device) {
+        return refusal::NOT_OWNER;
     }
     if is_other_grant(marks, page, count) {
         return refusal::RELEASE_DISAGREES;
@@ -158,8 +215,8 @@ pub(crate) fn release_refusal(
 }
 
 // An argument of a grant is outside its range.
-fn is_bad_request(memory: Memory, area: u64, count: u64, align: u64) -> bool
-    ensures { λ r. ⌜ r ≡ (isUnknown memory area || eqb count 0 || ltb mostAlignOrder align) ⌝ }
+fn is_bad_request(memory: Memory, area: u64, count: u64, align: u64, device: u64) -> bool
+    ensures { λ r. ⌜ r ≡ (isUnknown memory area || eqb count 0 || ltb mostAlignOrder align || badDevice device) ⌝ }
 {
     if memory.declared <= area {
         return true;
@@ -167,7 +224,10 @@ fn is_bad_request(memory: Memory, area: u64, count: u64, align: u64) -> bool
     if count == 0 {
         return true;
     }
-    Record::MOST_ALIGN_ORDER < align
+    if Record::MOST_ALIGN_ORDER < align {
+        return true;
+    }
+    is_bad_device(device)
 }
 
 // Why a grant is refused before any run is looked at; or that it is not: its first two checks.
@@ -177,16 +237,18 @@ pub(crate) fn request_refusal(
     marks: &[u32],
     words: &[u64],
     bitmap: &[u64],
+    owners: &[u32],
     area: u64,
     count: u64,
     align: u64,
+    device: u64,
 ) -> u64
-    ensures { λ r. ⌜ r ≡ firstNumber (take 2 (grantChecks (given memory areas) area count align (entering marks words bitmap))) ⌝ }
+    ensures { λ r. ⌜ r ≡ firstNumber (take 2 (grantChecks (given memory areas) area count align device (entering marks words bitmap owners))) ⌝ }
 {
-    if !shape_right(memory, areas, marks, words, bitmap) {
+    if !shape_right(memory, areas, marks, words, bitmap, owners) {
         return refusal::WRONG_SHAPE;
     }
-    if is_bad_request(memory, area, count, align) {
+    if is_bad_request(memory, area, count, align, device) {
         return refusal::OUT_OF_RANGE;
     }
     refusal::NONE

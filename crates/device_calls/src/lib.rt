@@ -6,9 +6,9 @@ ghost use mathlib.Core.Path.{_≡_};
 ghost use lib.ListN.{take};
 ghost use Rattle.frames.specs.Lent.{entering, leaving, lentNow};
 ghost use Rattle.rules.specs.Outcomes.{Passed};
-ghost use Rattle.rules.specs.DeviceCalls.{deviceStore, deviceRead, freeRun, releaseChecks, release, takeRun, grantChecks, grant};
+ghost use Rattle.rules.specs.DeviceCalls.{deviceStore, deviceRead, freeRun, release, takeRun, grantChecks, grant};
 ghost use Rattle.rules.specs.Does.{recordWith, given, Answers};
-ghost use Rattle.device_calls.specs.steps.DeviceSteps.{RunFits};
+ghost use Rattle.device_calls.specs.steps.DeviceSteps.{RangeFits, RunFits};
 
 mod aligned;
 mod checks;
@@ -27,7 +27,7 @@ use frames::Bit;
 use frames::Frame;
 use frames::area_at;
 use frames::count_movable;
-use frames::fill_marks;
+use frames::fill_places;
 use frames::fill_words;
 use frames::has_free_ordinary;
 use frames::place_of;
@@ -39,19 +39,21 @@ use units::bit_of_frame;
 use units::bitmap_start;
 use units::frame_of_bit;
 
-// The word becomes that of a granted frame.
+// The word becomes that of a frame that the device owns.
 pub fn device_store(
     memory: Memory,
     areas: &[u64],
     marks: &[u32],
     words: &mut [u64],
     bitmap: &[u64],
+    owners: &[u32],
     frame: Frame,
     word: u64,
+    device: u64,
 ) -> Answer
-    ensures { λ r. ⌜ Answers (λ m. deviceStore m frame word) memory areas r marks words bitmap ⌝ }
+    ensures { λ r. ⌜ Answers (λ m. deviceStore m frame word device) memory areas r marks words bitmap owners ⌝ }
 {
-    let number = device_refusal(memory, areas, marks, words, bitmap, frame);
+    let number = device_refusal(memory, areas, marks, words, bitmap, owners, frame, device);
     if number != refusal::NONE {
         return Answer::refused(number);
     }
@@ -61,18 +63,20 @@ pub fn device_store(
     Answer::done(0, 0)
 }
 
-// The word of a granted frame.
+// The word of a frame that the device owns.
 pub fn device_read(
     memory: Memory,
     areas: &[u64],
     marks: &[u32],
     words: &[u64],
     bitmap: &[u64],
+    owners: &[u32],
     frame: Frame,
+    device: u64,
 ) -> Answer
-    ensures { λ r. ⌜ Answers (λ m. deviceRead m frame) memory areas r marks words bitmap ⌝ }
+    ensures { λ r. ⌜ Answers (λ m. deviceRead m frame device) memory areas r marks words bitmap owners ⌝ }
 {
-    let number = device_refusal(memory, areas, marks, words, bitmap, frame);
+    let number = device_refusal(memory, areas, marks, words, bitmap, owners, frame, device);
     if number != refusal::NONE {
         return Answer::refused(number);
     }
@@ -81,64 +85,91 @@ pub fn device_read(
     Answer::done(words[at], 0)
 }
 
-// The run's marks and words become 0, and its bits clear.
+// The run's marks and words become 0, its bits clear, and no device owns its frames.
 fn free_run(
     memory: Memory,
     areas: &[u64],
     marks: &mut [u32],
     words: &mut [u64],
     bitmap: &mut [u64],
+    owners: &mut [u32],
     area: u64,
     frame: Frame,
     count: u64,
 )
-    requires { ⌜ Passed (take 2 (releaseChecks (recordWith memory (now areas)) area frame count (lentNow marks words bitmap))) ⌝ }
-    ensures { λ _. ⌜ leaving marks words bitmap ≡ freeRun (given memory areas) (entering marks words bitmap) area frame count ⌝ }
+    requires { ⌜ RangeFits (recordWith memory (now areas)) (lentNow marks words bitmap owners) area frame count ⌝ }
+    ensures { λ _. ⌜ leaving marks words bitmap owners ≡ freeRun (given memory areas) (entering marks words bitmap owners) area frame count ⌝ }
 {
     let a = area_at(areas, area as usize);
     let start = bitmap_start(areas, area);
     let page = place_of(memory.base, frame);
     let first = bit_of_frame(a, frame);
     let bits = a.bits_for(count) as usize;
-    fill_marks(marks, page, count, 0);
+    fill_places(marks, page, count, 0);
     fill_words(words, page, count, 0);
     clear_run(bitmap, start, first.0, bits);
+    fill_places(owners, page, count, 0);
 }
 
-// A grant ends: its frames are free, and its bits clear.
+// A grant ends, by its owner: its frames are free, and its bits clear.
 pub fn release(
     memory: Memory,
     areas: &[u64],
     marks: &mut [u32],
     words: &mut [u64],
     bitmap: &mut [u64],
+    owners: &mut [u32],
     area: u64,
     frame: Frame,
     count: u64,
+    device: u64,
 ) -> Answer
-    ensures { λ r. ⌜ Answers (λ m. release m area frame count) memory areas r marks words bitmap ⌝ }
+    ensures { λ r. ⌜ Answers (λ m. release m area frame count device) memory areas r marks words bitmap owners ⌝ }
 {
-    let number = release_refusal(memory, areas, marks, words, bitmap, area, frame, count);
+    let number = release_refusal(
+        memory,
+        areas,
+        marks,
+        words,
+        bitmap,
+        owners,
+        area,
+        frame,
+        count,
+        device,
+    );
     if number != refusal::NONE {
         return Answer::refused(number);
     }
-    free_run(memory, areas, marks, words, bitmap, area, frame, count);
+    free_run(
+        memory,
+        areas,
+        marks,
+        words,
+        bitmap,
+        owners,
+        area,
+        frame,
+        count,
+    );
     Answer::done(0, 0)
 }
 
-// The run at a bit of an area becomes a grant: its pages go out, its frames are marked, and its bits set.
+// The run at a bit of an area becomes a device's grant: its pages go out, its frames are marked, its bits set, and the device owns its frames.
 fn take_run(
     memory: Memory,
     areas: &[u64],
     marks: &mut [u32],
     words: &mut [u64],
     bitmap: &mut [u64],
+    owners: &mut [u32],
     area: u64,
     count: u64,
     run: Bit,
+    device: u32,
 )
-    requires { ⌜ RunFits (recordWith memory (now areas)) (lentNow marks words bitmap) area count run ⌝ }
-    ensures { λ _. ⌜ leaving marks words bitmap ≡ takeRun (given memory areas) (entering marks words bitmap) area count run ⌝ }
+    requires { ⌜ RunFits (recordWith memory (now areas)) (lentNow marks words bitmap owners) area count run ⌝ }
+    ensures { λ _. ⌜ leaving marks words bitmap owners ≡ takeRun (given memory areas) (entering marks words bitmap owners) area count run device ⌝ }
 {
     let a = area_at(areas, area as usize);
     let start = bitmap_start(areas, area);
@@ -147,6 +178,7 @@ fn take_run(
     move_out(memory, areas, marks, words, page, count);
     mark_run(marks, words, page, count);
     set_run(bitmap, start, run.0, bits);
+    fill_places(owners, page, count, device);
 }
 
 // A grant whose arguments are right: the lowest run that can be granted, where there is one and its pages have somewhere to go.
@@ -156,12 +188,14 @@ fn grant_lowest(
     marks: &mut [u32],
     words: &mut [u64],
     bitmap: &mut [u64],
+    owners: &mut [u32],
     area: u64,
     count: u64,
     align: u64,
+    device: u64,
 ) -> Answer
-    requires { ⌜ Passed (take 2 (grantChecks (recordWith memory (now areas)) area count align (lentNow marks words bitmap))) ⌝ }
-    ensures { λ r. ⌜ Answers (λ m. grant m area count align) memory areas r marks words bitmap ⌝ }
+    requires { ⌜ Passed (take 2 (grantChecks (recordWith memory (now areas)) area count align device (lentNow marks words bitmap owners))) ⌝ }
+    ensures { λ r. ⌜ Answers (λ m. grant m area count align device) memory areas r marks words bitmap owners ⌝ }
 {
     let a = area_at(areas, area as usize);
     let run = find_run(memory, areas, marks, bitmap, area, count, align);
@@ -174,7 +208,18 @@ fn grant_lowest(
     if !has_free_ordinary(marks, memory.base, areas, memory.declared, moved) {
         return Answer::refused(refusal::NO_TARGET);
     }
-    take_run(memory, areas, marks, words, bitmap, area, count, run);
+    take_run(
+        memory,
+        areas,
+        marks,
+        words,
+        bitmap,
+        owners,
+        area,
+        count,
+        run,
+        device as u32,
+    );
     Answer::done(first.0, moved)
 }
 
@@ -185,15 +230,39 @@ pub fn grant(
     marks: &mut [u32],
     words: &mut [u64],
     bitmap: &mut [u64],
+    owners: &mut [u32],
     area: u64,
     count: u64,
     align: u64,
+    device: u64,
 ) -> Answer
-    ensures { λ r. ⌜ Answers (λ m. grant m area count align) memory areas r marks words bitmap ⌝ }
+    ensures { λ r. ⌜ Answers (λ m. grant m area count align device) memory areas r marks words bitmap owners ⌝ }
 {
-    let number = request_refusal(memory, areas, marks, words, bitmap, area, count, align);
+    let number = request_refusal(
+        memory,
+        areas,
+        marks,
+        words,
+        bitmap,
+        owners,
+        area,
+        count,
+        align,
+        device,
+    );
     if number != refusal::NONE {
         return Answer::refused(number);
     }
-    grant_lowest(memory, areas, marks, words, bitmap, area, count, align)
+    grant_lowest(
+        memory,
+        areas,
+        marks,
+        words,
+        bitmap,
+        owners,
+        area,
+        count,
+        align,
+        device,
+    )
 }

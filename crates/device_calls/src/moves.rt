@@ -16,7 +16,7 @@ ghost use Rattle.rules.specs.DeviceCalls.{moveOut, markRun};
 ghost use Rattle.device_calls.specs.steps.DeviceSteps.{pageMoved};
 use frames::Place;
 use frames::Stretch;
-use frames::fill_marks;
+use frames::fill_places;
 use frames::fill_words;
 use frames::in_order;
 use frames::kinds::HEAD;
@@ -44,12 +44,12 @@ fn next_movable(marks: &[u32], from: Place, end: Place) -> Place
 // The page at a place goes to another, with its mark and word, where the tables reach that.
 fn move_page(marks: &mut [u32], words: &mut [u64], page: Place, to: Place)
     requires { ⌜ (page .0 < length (now marks)) × (page .0 < length (now words)) ⌝ }
-    ensures { λ _. ⌜ tables (now (marks .exit)) (now (words .exit)) [] ≡ pageMoved (tables (now (marks .entry)) (now (words .entry)) []) page to ⌝ }
+    ensures { λ _. ⌜ tables (now (marks .exit)) (now (words .exit)) [] [] ≡ pageMoved (tables (now (marks .entry)) (now (words .entry)) [] []) page to ⌝ }
 {
     let at = page.0;
     let mark = marks[at];
     let word = words[at];
-    fill_marks(marks, to, 1, mark);
+    fill_places(marks, to, 1, mark);
     fill_words(words, to, 1, word);
     marks[at] = 0;
     words[at] = 0;
@@ -66,7 +66,7 @@ pub(crate) fn move_out(
     count: u64,
 )
     requires { ⌜ (memory .declared ≤ mostAreas) × (page .0 + count ≤ memory .frames) × (length (now marks) ≡ memory .frames) × (length (now words) ≡ memory .frames) × ((k : ℕ) → page .0 ≤ k → k < page .0 + count → isOrdinary (recordWith memory (now areas)) (place k) ≡ false) ⌝ }
-    ensures { λ _. ⌜ tables (now (marks .exit)) (now (words .exit)) [] ≡ moveOut (given memory areas) (tables (now (marks .entry)) (now (words .entry)) []) page count ⌝ }
+    ensures { λ _. ⌜ tables (now (marks .exit)) (now (words .exit)) [] [] ≡ moveOut (given memory areas) (tables (now (marks .entry)) (now (words .entry)) [] []) page count ⌝ }
 {
     let end = Place(page.0 + count as usize);
     let mut at = next_movable(marks, page, end);
@@ -86,12 +86,12 @@ pub(crate) fn move_out(
 // The marks and words of a run that is granted: the first mark has the count, the others are 5, and the words are 0.
 pub(crate) fn mark_run(marks: &mut [u32], words: &mut [u64], page: Place, count: u64)
     requires { ⌜ (0 < count) × (count ≤ mostFrames) × (page .0 < length (now marks)) × (page .0 < length (now words)) ⌝ }
-    ensures { λ _. ⌜ tables (now (marks .exit)) (now (words .exit)) [] ≡ markRun (tables (now (marks .entry)) (now (words .entry)) []) page count ⌝ }
+    ensures { λ _. ⌜ tables (now (marks .exit)) (now (words .exit)) [] [] ≡ markRun (tables (now (marks .entry)) (now (words .entry)) [] []) page count ⌝ }
 {
     let at = page.0;
     let rest = Place(at + 1);
     marks[at] = count as u32 * 8 + HEAD;
     words[at] = 0;
-    fill_marks(marks, rest, count - 1, LATER);
+    fill_places(marks, rest, count - 1, LATER);
     fill_words(words, rest, count - 1, 0);
 }

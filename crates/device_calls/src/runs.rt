@@ -165,7 +165,7 @@ pub(crate) fn find_run(
     align: u64,
 ) -> Bit
     requires { ⌜ SearchFits (recordWith memory (now areas)) area count align ⌝ }
-    ensures { λ r. ⌜ r ≡ chosen (given memory areas) (tables (now (marks .entry)) [] (now (bitmap .entry))) area count align ⌝ }
+    ensures { λ r. ⌜ r ≡ chosen (given memory areas) (tables (now (marks .entry)) [] (now (bitmap .entry)) []) area count align ⌝ }
 {
     let a = area_at(areas, area as usize);
     let all = a.bits() as usize;

@@ -8,12 +8,12 @@ use Rattle.frames.specs.Tables.{Tables, tables}
 abbrev pub Slice : Type 0
 Slice = Both (RefT (List ℕ)) (RefT (List ℕ))
 
-abbrev pub entering : Slice → Slice → Slice → Tables
-entering marks words bitmap = tables (now (marks .entry)) (now (words .entry)) (now (bitmap .entry))
+abbrev pub entering : Slice → Slice → Slice → Slice → Tables
+entering marks words bitmap owners = tables (now (marks .entry)) (now (words .entry)) (now (bitmap .entry)) (now (owners .entry))
 
-abbrev pub leaving : Slice → Slice → Slice → Tables
-leaving marks words bitmap = tables (now (marks .exit)) (now (words .exit)) (now (bitmap .exit))
+abbrev pub leaving : Slice → Slice → Slice → Slice → Tables
+leaving marks words bitmap owners = tables (now (marks .exit)) (now (words .exit)) (now (bitmap .exit)) (now (owners .exit))
 
 -- the tables lent, in a `requires`
-abbrev pub lentNow : RefT (List ℕ) → RefT (List ℕ) → RefT (List ℕ) → Tables
-lentNow marks words bitmap = tables (now marks) (now words) (now bitmap)
+abbrev pub lentNow : RefT (List ℕ) → RefT (List ℕ) → RefT (List ℕ) → RefT (List ℕ) → Tables
+lentNow marks words bitmap owners = tables (now marks) (now words) (now bitmap) (now owners)

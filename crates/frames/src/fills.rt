@@ -17,14 +17,14 @@ pub(crate) fn range_end(from: usize, count: u64, len: usize) -> usize
     from + count as usize
 }
 
-// The `count` marks from place `from` on become `value`.
-pub fn fill_marks(marks: &mut [u32], from: Place, count: u64, value: u32)
-    ensures { λ r. ⌜ now (marks .exit) ≡ fill (now (marks .entry)) (from .0) count value ⌝ }
+// The `count` entries from place `from` on of the marks, or of the owners, become `value`.
+pub fn fill_places(table: &mut [u32], from: Place, count: u64, value: u32)
+    ensures { λ r. ⌜ now (table .exit) ≡ fill (now (table .entry)) (from .0) count value ⌝ }
 {
-    let end = range_end(from.0, count, marks.len());
+    let end = range_end(from.0, count, table.len());
     let mut i = from.0;
     while i < end {
-        marks[i] = value;
+        table[i] = value;
         i += 1;
     }
 }

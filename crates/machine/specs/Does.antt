@@ -8,5 +8,5 @@ use Rattle.machine.specs.declared.Machine.{Machine}
 use Rattle.machine.specs.declared.Returned.{Returned}
 
 -- a method does what a call does
-abbrev pub Does : (Record → Tables → Outcome) → Machine → Slice → Returned → Slice → Slice → Slice → Type 0
-Does call m areas r marks words bitmap = Returns call (m .memory) areas (r .machine .memory) (r .answer) marks words bitmap
+abbrev pub Does : (Record → Tables → Outcome) → Machine → Slice → Returned → Slice → Slice → Slice → Slice → Type 0
+Does call m areas r marks words bitmap owners = Returns call (m .memory) areas (r .machine .memory) (r .answer) marks words bitmap owners

@@ -38,11 +38,20 @@ impl Machine {
         marks: &mut [u32],
         words: &mut [u64],
         bitmap: &mut [u64],
+        owners: &mut [u32],
         name: u64,
     ) -> Returned
-        ensures { λ r. ⌜ Does (λ m. putMovable m name) self areas r marks words bitmap ⌝ }
+        ensures { λ r. ⌜ Does (λ m. putMovable m name) self areas r marks words bitmap owners ⌝ }
     {
-        let answer = page_calls::put_movable(self.memory, areas, marks, words, bitmap, name);
+        let answer = page_calls::put_movable(
+            self.memory,
+            areas,
+            marks,
+            words,
+            bitmap,
+            owners,
+            name,
+        );
         Returned {
             machine: self,
             answer,
@@ -56,11 +65,12 @@ impl Machine {
         marks: &mut [u32],
         words: &mut [u64],
         bitmap: &mut [u64],
+        owners: &mut [u32],
         name: u64,
     ) -> Returned
-        ensures { λ r. ⌜ Does (λ m. putFixed m name) self areas r marks words bitmap ⌝ }
+        ensures { λ r. ⌜ Does (λ m. putFixed m name) self areas r marks words bitmap owners ⌝ }
     {
-        let answer = page_calls::put_fixed(self.memory, areas, marks, words, bitmap, name);
+        let answer = page_calls::put_fixed(self.memory, areas, marks, words, bitmap, owners, name);
         Returned {
             machine: self,
             answer,
@@ -74,11 +84,12 @@ impl Machine {
         marks: &mut [u32],
         words: &mut [u64],
         bitmap: &mut [u64],
+        owners: &mut [u32],
         name: u64,
     ) -> Returned
-        ensures { λ r. ⌜ Does (λ m. dropPage m name) self areas r marks words bitmap ⌝ }
+        ensures { λ r. ⌜ Does (λ m. dropPage m name) self areas r marks words bitmap owners ⌝ }
     {
-        let answer = page_calls::drop_page(self.memory, areas, marks, words, bitmap, name);
+        let answer = page_calls::drop_page(self.memory, areas, marks, words, bitmap, owners, name);
         Returned {
             machine: self,
             answer,
@@ -92,11 +103,12 @@ impl Machine {
         marks: &mut [u32],
         words: &mut [u64],
         bitmap: &mut [u64],
+        owners: &mut [u32],
         name: u64,
     ) -> Returned
-        ensures { λ r. ⌜ Does (λ m. pinPage m name) self areas r marks words bitmap ⌝ }
+        ensures { λ r. ⌜ Does (λ m. pinPage m name) self areas r marks words bitmap owners ⌝ }
     {
-        let answer = page_calls::pin_page(self.memory, areas, marks, words, bitmap, name);
+        let answer = page_calls::pin_page(self.memory, areas, marks, words, bitmap, owners, name);
         Returned {
             machine: self,
             answer,
@@ -110,11 +122,12 @@ impl Machine {
         marks: &mut [u32],
         words: &mut [u64],
         bitmap: &mut [u64],
+        owners: &mut [u32],
         name: u64,
     ) -> Returned
-        ensures { λ r. ⌜ Does (λ m. unpinPage m name) self areas r marks words bitmap ⌝ }
+        ensures { λ r. ⌜ Does (λ m. unpinPage m name) self areas r marks words bitmap owners ⌝ }
     {
-        let answer = page_calls::unpin_page(self.memory, areas, marks, words, bitmap, name);
+        let answer = page_calls::unpin_page(self.memory, areas, marks, words, bitmap, owners, name);
         Returned {
             machine: self,
             answer,
@@ -128,12 +141,22 @@ impl Machine {
         marks: &mut [u32],
         words: &mut [u64],
         bitmap: &mut [u64],
+        owners: &mut [u32],
         name: u64,
         word: u64,
     ) -> Returned
-        ensures { λ r. ⌜ Does (λ m. storePage m name word) self areas r marks words bitmap ⌝ }
+        ensures { λ r. ⌜ Does (λ m. storePage m name word) self areas r marks words bitmap owners ⌝ }
     {
-        let answer = page_calls::store_page(self.memory, areas, marks, words, bitmap, name, word);
+        let answer = page_calls::store_page(
+            self.memory,
+            areas,
+            marks,
+            words,
+            bitmap,
+            owners,
+            name,
+            word,
+        );
         Returned {
             machine: self,
             answer,
@@ -147,29 +170,32 @@ impl Machine {
         marks: &mut [u32],
         words: &mut [u64],
         bitmap: &mut [u64],
+        owners: &mut [u32],
         name: u64,
     ) -> Returned
-        ensures { λ r. ⌜ Does (λ m. readPage m name) self areas r marks words bitmap ⌝ }
+        ensures { λ r. ⌜ Does (λ m. readPage m name) self areas r marks words bitmap owners ⌝ }
     {
-        let answer = page_calls::read_page(self.memory, areas, marks, words, bitmap, name);
+        let answer = page_calls::read_page(self.memory, areas, marks, words, bitmap, owners, name);
         Returned {
             machine: self,
             answer,
         }
     }
 
-    // The lowest run that can be granted is a device's, and its movable pages stand elsewhere.
+    // The lowest run that can be granted is the device's, and its movable pages stand elsewhere.
     pub fn grant(
         self,
         areas: &mut [u64],
         marks: &mut [u32],
         words: &mut [u64],
         bitmap: &mut [u64],
+        owners: &mut [u32],
         area: u64,
         count: u64,
         align: u64,
+        device: u64,
     ) -> Returned
-        ensures { λ r. ⌜ Does (λ m. grant m area count align) self areas r marks words bitmap ⌝ }
+        ensures { λ r. ⌜ Does (λ m. grant m area count align device) self areas r marks words bitmap owners ⌝ }
     {
         let answer = device_calls::grant(
             self.memory,
@@ -177,9 +203,11 @@ impl Machine {
             marks,
             words,
             bitmap,
+            owners,
             area,
             count,
             align,
+            device,
         );
         Returned {
             machine: self,
@@ -187,18 +215,20 @@ impl Machine {
         }
     }
 
-    // A grant ends: its frames are free, and its bits clear.
+    // A grant ends, by its owner: its frames are free, and its bits clear.
     pub fn release(
         self,
         areas: &mut [u64],
         marks: &mut [u32],
         words: &mut [u64],
         bitmap: &mut [u64],
+        owners: &mut [u32],
         area: u64,
         frame: Frame,
         count: u64,
+        device: u64,
     ) -> Returned
-        ensures { λ r. ⌜ Does (λ m. release m area frame count) self areas r marks words bitmap ⌝ }
+        ensures { λ r. ⌜ Does (λ m. release m area frame count device) self areas r marks words bitmap owners ⌝ }
     {
         let answer = device_calls::release(
             self.memory,
@@ -206,9 +236,11 @@ impl Machine {
             marks,
             words,
             bitmap,
+            owners,
             area,
             frame,
             count,
+            device,
         );
         Returned {
             machine: self,
@@ -216,17 +248,19 @@ impl Machine {
         }
     }
 
-    // The word becomes that of a granted frame.
+    // The word becomes that of a frame that the device owns.
     pub fn device_store(
         self,
         areas: &mut [u64],
         marks: &mut [u32],
         words: &mut [u64],
         bitmap: &mut [u64],
+        owners: &mut [u32],
         frame: Frame,
         word: u64,
+        device: u64,
     ) -> Returned
-        ensures { λ r. ⌜ Does (λ m. deviceStore m frame word) self areas r marks words bitmap ⌝ }
+        ensures { λ r. ⌜ Does (λ m. deviceStore m frame word device) self areas r marks words bitmap owners ⌝ }
     {
         let answer = device_calls::device_store(
             self.memory,
@@ -234,8 +268,10 @@ impl Machine {
             marks,
             words,
             bitmap,
+            owners,
             frame,
             word,
+            device,
         );
         Returned {
             machine: self,
@@ -243,18 +279,29 @@ impl Machine {
         }
     }
 
-    // The word of a granted frame.
+    // The word of a frame that the device owns.
     pub fn device_read(
         self,
         areas: &mut [u64],
         marks: &mut [u32],
         words: &mut [u64],
         bitmap: &mut [u64],
+        owners: &mut [u32],
         frame: Frame,
+        device: u64,
     ) -> Returned
-        ensures { λ r. ⌜ Does (λ m. deviceRead m frame) self areas r marks words bitmap ⌝ }
+        ensures { λ r. ⌜ Does (λ m. deviceRead m frame device) self areas r marks words bitmap owners ⌝ }
     {
-        let answer = device_calls::device_read(self.memory, areas, marks, words, bitmap, frame);
+        let answer = device_calls::device_read(
+            self.memory,
+            areas,
+            marks,
+            words,
+            bitmap,
+            owners,
+            frame,
+            device,
+        );
         Returned {
             machine: self,
             answer,
@@ -269,11 +316,12 @@ impl Machine {
         marks: &mut [u32],
         words: &mut [u64],
         bitmap: &mut [u64],
+        owners: &mut [u32],
         request: Request,
     ) -> Returned
-        ensures { λ r. ⌜ Does (withAllAreas (λ m. declare m request)) self areas r marks words bitmap ⌝ }
+        ensures { λ r. ⌜ Does (withAllAreas (λ m. declare m request)) self areas r marks words bitmap owners ⌝ }
     {
-        let laid = setup::declare(self.memory, areas, marks, words, bitmap, request);
+        let laid = setup::declare(self.memory, areas, marks, words, bitmap, owners, request);
         let memory = laid.memory;
         let answer = laid.answer;
         let machine = Machine { memory };
@@ -288,12 +336,13 @@ impl Machine {
         marks: &mut [u32],
         words: &mut [u64],
         bitmap: &mut [u64],
+        owners: &mut [u32],
         base: Frame,
         frames: u64,
         block_order: u64,
         text: &[u8],
     ) -> Returned
-        ensures { λ r. ⌜ Does (withAllAreas (λ m. boot m (base .0) frames «block_order» (now (text .entry)))) self areas r marks words bitmap ⌝ }
+        ensures { λ r. ⌜ Does (withAllAreas (λ m. boot m (base .0) frames «block_order» (now (text .entry)))) self areas r marks words bitmap owners ⌝ }
     {
         let laid = setup::boot(
             self.memory,
@@ -301,6 +350,7 @@ impl Machine {
             marks,
             words,
             bitmap,
+            owners,
             base,
             frames,
             block_order,
@@ -320,10 +370,11 @@ impl Machine {
         marks: &mut [u32],
         words: &mut [u64],
         bitmap: &mut [u64],
+        owners: &mut [u32],
         call: Call,
         text: &[u8],
     ) -> Returned
-        ensures { λ r. ⌜ Does (withAllAreas (perform call (now (text .entry)))) self areas r marks words bitmap ⌝ }
+        ensures { λ r. ⌜ Does (withAllAreas (perform call (now (text .entry)))) self areas r marks words bitmap owners ⌝ }
     {
         if areas.len() != Record::AREA_NUMBERS {
             return Returned {
@@ -332,29 +383,73 @@ impl Machine {
             };
         }
         match call {
-            Call::PutMovable { name } => self.put_movable(areas, marks, words, bitmap, name),
-            Call::PutFixed { name } => self.put_fixed(areas, marks, words, bitmap, name),
-            Call::Drop { name } => self.drop_page(areas, marks, words, bitmap, name),
-            Call::Pin { name } => self.pin_page(areas, marks, words, bitmap, name),
-            Call::Unpin { name } => self.unpin_page(areas, marks, words, bitmap, name),
-            Call::Store { name, word } => self.store_page(areas, marks, words, bitmap, name, word),
-            Call::Read { name } => self.read_page(areas, marks, words, bitmap, name),
-            Call::Grant { area, count, align } => {
-                self.grant(areas, marks, words, bitmap, area, count, align)
+            Call::PutMovable { name } => {
+                self.put_movable(areas, marks, words, bitmap, owners, name)
             }
-            Call::Release { area, frame, count } => {
-                self.release(areas, marks, words, bitmap, area, frame, count)
+            Call::PutFixed { name } => self.put_fixed(areas, marks, words, bitmap, owners, name),
+            Call::Drop { name } => self.drop_page(areas, marks, words, bitmap, owners, name),
+            Call::Pin { name } => self.pin_page(areas, marks, words, bitmap, owners, name),
+            Call::Unpin { name } => self.unpin_page(areas, marks, words, bitmap, owners, name),
+            Call::Store { name, word } => {
+                self.store_page(areas, marks, words, bitmap, owners, name, word)
             }
-            Call::DeviceStore { frame, word } => {
-                self.device_store(areas, marks, words, bitmap, frame, word)
+            Call::Read { name } => self.read_page(areas, marks, words, bitmap, owners, name),
+            Call::Grant {
+                area,
+                count,
+                align,
+                device,
+            } => self.grant(
+                areas,
+                marks,
+                words,
+                bitmap,
+                owners,
+                area,
+                count,
+                align,
+                device,
+            ),
+            Call::Release {
+                area,
+                frame,
+                count,
+                device,
+            } => self.release(
+                areas,
+                marks,
+                words,
+                bitmap,
+                owners,
+                area,
+                frame,
+                count,
+                device,
+            ),
+            Call::DeviceStore {
+                frame,
+                word,
+                device,
+            } => self.device_store(areas, marks, words, bitmap, owners, frame, word, device),
+            Call::DeviceRead { frame, device } => {
+                self.device_read(areas, marks, words, bitmap, owners, frame, device)
             }
-            Call::DeviceRead { frame } => self.device_read(areas, marks, words, bitmap, frame),
-            Call::Declare { request } => self.declare(areas, marks, words, bitmap, request),
+            Call::Declare { request } => self.declare(areas, marks, words, bitmap, owners, request),
             Call::Boot {
                 base,
                 frames,
                 block_order,
-            } => self.boot(areas, marks, words, bitmap, base, frames, block_order, text),
+            } => self.boot(
+                areas,
+                marks,
+                words,
+                bitmap,
+                owners,
+                base,
+                frames,
+                block_order,
+                text,
+            ),
         }
     }
 }

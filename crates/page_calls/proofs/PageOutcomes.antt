@@ -64,20 +64,20 @@ module _ (m : Record) (name : ℕ) (t : Tables) where
         ap (λ (q : Place). outcome m (done 0 0) (setPage t q 0 0)) (sym (l .at))
 
     pub change-done : (from to mark : ℕ) → kindOf (markAt t p) ≡ from → mark ≡ markOf name to →
-        changeKind from to m name t ≡ outcome m (done 0 0) (tables (set (t .marks) (p .0) mark) (t .words) (t .bitmap))
+        changeKind from to m name t ≡ outcome m (done 0 0) (tables (set (t .marks) (p .0) mark) (t .words) (t .bitmap) (t .owners))
     unfolding changeKind
     change-done from to mark e v =
         l .pass _ _ ∙ checked-pass m t _ _ _ (ap not (kind-at from (eq-eqb _ _ e))) ∙ checked-end m t _ ∙
         ap (λ (q : Place). outcome m (done 0 0) (setPage t q (markOf name to) (wordAt t q))) (sym (l .at)) ∙
-        ap₂ (λ k ws. outcome m (done 0 0) (tables (set (t .marks) (p .0) k) ws (t .bitmap))) (sym v) (set-getD (t .words) (p .0) 0)
+        ap₂ (λ k ws. outcome m (done 0 0) (tables (set (t .marks) (p .0) k) ws (t .bitmap) (t .owners))) (sym v) (set-getD (t .words) (p .0) 0)
 
     pub store-done : (word : ℕ) → (kindOf (markAt t p) ≡ pinned → ⊥) → (words : List ℕ) → words ≡ fill (t .words) (p .0) 1 word →
-        storePage m name word t ≡ outcome m (done 0 0) (tables (t .marks) words (t .bitmap))
+        storePage m name word t ≡ outcome m (done 0 0) (tables (t .marks) words (t .bitmap) (t .owners))
     unfolding storePage fill
     store-done word e words w =
         l .pass _ _ ∙ checked-pass m t _ _ _ (kind-at pinned (ne-eqb _ _ e)) ∙ checked-end m t _ ∙
         ap (λ (q : Place). outcome m (done 0 0) (setPage t q (markAt t q) word)) (sym (l .at)) ∙
-        ap₂ (λ ms ws. outcome m (done 0 0) (tables ms ws (t .bitmap))) (set-getD (t .marks) (p .0) 0) (sym w)
+        ap₂ (λ ms ws. outcome m (done 0 0) (tables ms ws (t .bitmap) (t .owners))) (set-getD (t .marks) (p .0) 0) (sym w)
 
     pub read-done : (f : Frame) → f ≡ frame (min (m .memory .base .0 + p .0) mostNumber) →
         readPage m name t ≡ outcome m (done (f .0) (wordAt t p)) t

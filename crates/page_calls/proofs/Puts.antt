@@ -111,12 +111,12 @@ module _ (kind : ℕ) (m : Record) (name : ℕ) (t : Tables) where
 
   pub put-done : lookUp m name t ≡ Not 3 → (p : Place) → p ≡ putAt kind m t → p .0 < length (t .marks) → (mark : ℕ) → mark ≡ markOf name kind →
       (words : List ℕ) → words ≡ fill (t .words) (p .0) 1 0 → (f : Frame) → f ≡ frame (min (m .memory .base .0 + p .0) mostNumber) →
-      putPage kind m name t ≡ outcome m (done (f .0) 0) (tables (set (t .marks) (p .0) mark) words (t .bitmap))
+      putPage kind m name t ≡ outcome m (done (f .0) 0) (tables (set (t .marks) (p .0) mark) words (t .bitmap) (t .owners))
   unfolding putPage fill
   put-done e p q h mark v words x f w =
       let k = looked-missing m name t e in
       k .pass _ _ ∙
       checked-pass m t _ _ _ (ap not (lt-ltb (putAt kind m t .0) (m .memory .frames) (omega (arith, k .shape .marks-length, ap (λ (x : Place). x .0) q)))) ∙
       checked-end m t _ ∙ ap₂ (λ x y. outcome m (done (frameAt m x .0) 0) (setPage t x y 0)) (sym q) (sym v) ∙
-      ap₂ (λ (g : Frame) (ws : List ℕ). outcome m (done (g .0) 0) (tables (set (t .marks) (p .0) mark) ws (t .bitmap)))
+      ap₂ (λ (g : Frame) (ws : List ℕ). outcome m (done (g .0) 0) (tables (set (t .marks) (p .0) mark) ws (t .bitmap) (t .owners)))
       (sym (w ∙ frame-inside (k .shape) p (omega (arith, k .shape .marks-length)))) (sym x)

@@ -53,11 +53,12 @@ fn look_up(
     marks: &[u32],
     words: &[u64],
     bitmap: &[u64],
+    owners: &[u32],
     name: u64,
 ) -> Found
-    ensures { λ r. ⌜ r ≡ lookUp (given memory areas) name (entering marks words bitmap) ⌝ }
+    ensures { λ r. ⌜ r ≡ lookUp (given memory areas) name (entering marks words bitmap owners) ⌝ }
 {
-    if !shape_right(memory, areas, marks, words, bitmap) {
+    if !shape_right(memory, areas, marks, words, bitmap, owners) {
         return Found::Not(refusal::WRONG_SHAPE);
     }
     if is_bad_name(name) {
@@ -78,10 +79,11 @@ fn put_at(
     marks: &[u32],
     words: &[u64],
     bitmap: &[u64],
+    owners: &[u32],
     kind: u32,
 ) -> Place
-    requires { ⌜ shapeRight (recordWith memory (now areas)) (lentNow marks words bitmap) ≡ true ⌝ }
-    ensures { λ r. ⌜ r ≡ putAt kind (given memory areas) (entering marks words bitmap) ⌝ }
+    requires { ⌜ shapeRight (recordWith memory (now areas)) (lentNow marks words bitmap owners) ≡ true ⌝ }
+    ensures { λ r. ⌜ r ≡ putAt kind (given memory areas) (entering marks words bitmap owners) ⌝ }
 {
     let ordinary = find_free_ordinary(marks, memory.base, areas, memory.declared);
     if ordinary.0 < marks.len() {
@@ -100,14 +102,15 @@ fn put_new(
     marks: &mut [u32],
     words: &mut [u64],
     bitmap: &[u64],
+    owners: &[u32],
     name: u64,
     kind: u32,
 ) -> Answer
-    requires { ⌜ lookUp (recordWith memory (now areas)) name (lentNow marks words bitmap) ≡ Not 3 ⌝ }
+    requires { ⌜ lookUp (recordWith memory (now areas)) name (lentNow marks words bitmap owners) ≡ Not 3 ⌝ }
     requires { ⌜ kind < kinds ⌝ }
-    ensures { λ r. ⌜ Answers (λ m. putPage kind m name) memory areas r marks words bitmap ⌝ }
+    ensures { λ r. ⌜ Answers (λ m. putPage kind m name) memory areas r marks words bitmap owners ⌝ }
 {
-    let page = put_at(memory, areas, marks, words, bitmap, kind);
+    let page = put_at(memory, areas, marks, words, bitmap, owners, kind);
     let at = page.0;
     if marks.len() <= at {
         return Answer::refused(refusal::NO_FRAME);
@@ -126,20 +129,21 @@ fn put_page(
     marks: &mut [u32],
     words: &mut [u64],
     bitmap: &[u64],
+    owners: &[u32],
     name: u64,
     kind: u32,
 ) -> Answer
     requires { ⌜ kind < kinds ⌝ }
-    ensures { λ r. ⌜ Answers (λ m. putPage kind m name) memory areas r marks words bitmap ⌝ }
+    ensures { λ r. ⌜ Answers (λ m. putPage kind m name) memory areas r marks words bitmap owners ⌝ }
 {
-    let found = look_up(memory, areas, marks, words, bitmap, name);
+    let found = look_up(memory, areas, marks, words, bitmap, owners, name);
     match found {
         Found::At(_) => Answer::refused(refusal::NAME_LIVE),
         Found::Not(number) => {
             if number != refusal::NOT_LIVE {
                 return Answer::refused(number);
             }
-            put_new(memory, areas, marks, words, bitmap, name, kind)
+            put_new(memory, areas, marks, words, bitmap, owners, name, kind)
         }
     }
 }
@@ -151,11 +155,12 @@ pub fn put_movable(
     marks: &mut [u32],
     words: &mut [u64],
     bitmap: &[u64],
+    owners: &[u32],
     name: u64,
 ) -> Answer
-    ensures { λ r. ⌜ Answers (λ m. putMovable m name) memory areas r marks words bitmap ⌝ }
+    ensures { λ r. ⌜ Answers (λ m. putMovable m name) memory areas r marks words bitmap owners ⌝ }
 {
-    put_page(memory, areas, marks, words, bitmap, name, MOVABLE)
+    put_page(memory, areas, marks, words, bitmap, owners, name, MOVABLE)
 }
 
 // A fixed page is put, which no area takes.
@@ -165,11 +170,12 @@ pub fn put_fixed(
     marks: &mut [u32],
     words: &mut [u64],
     bitmap: &[u64],
+    owners: &[u32],
     name: u64,
 ) -> Answer
-    ensures { λ r. ⌜ Answers (λ m. putFixed m name) memory areas r marks words bitmap ⌝ }
+    ensures { λ r. ⌜ Answers (λ m. putFixed m name) memory areas r marks words bitmap owners ⌝ }
 {
-    put_page(memory, areas, marks, words, bitmap, name, FIXED)
+    put_page(memory, areas, marks, words, bitmap, owners, name, FIXED)
 }
 
 // A page is gone from its frame, unless it is pinned.
@@ -179,11 +185,12 @@ pub fn drop_page(
     marks: &mut [u32],
     words: &mut [u64],
     bitmap: &[u64],
+    owners: &[u32],
     name: u64,
 ) -> Answer
-    ensures { λ r. ⌜ Answers (λ m. dropPage m name) memory areas r marks words bitmap ⌝ }
+    ensures { λ r. ⌜ Answers (λ m. dropPage m name) memory areas r marks words bitmap owners ⌝ }
 {
-    let found = look_up(memory, areas, marks, words, bitmap, name);
+    let found = look_up(memory, areas, marks, words, bitmap, owners, name);
     match found {
         Found::Not(number) => Answer::refused(number),
         Found::At(page) => {
@@ -206,14 +213,15 @@ fn change_kind(
     marks: &mut [u32],
     words: &[u64],
     bitmap: &[u64],
+    owners: &[u32],
     name: u64,
     from: u32,
     to: u32,
 ) -> Answer
     requires { ⌜ to < kinds ⌝ }
-    ensures { λ r. ⌜ Answers (λ m. changeKind from to m name) memory areas r marks words bitmap ⌝ }
+    ensures { λ r. ⌜ Answers (λ m. changeKind from to m name) memory areas r marks words bitmap owners ⌝ }
 {
-    let found = look_up(memory, areas, marks, words, bitmap, name);
+    let found = look_up(memory, areas, marks, words, bitmap, owners, name);
     match found {
         Found::Not(number) => Answer::refused(number),
         Found::At(page) => {
@@ -235,11 +243,22 @@ pub fn pin_page(
     marks: &mut [u32],
     words: &[u64],
     bitmap: &[u64],
+    owners: &[u32],
     name: u64,
 ) -> Answer
-    ensures { λ r. ⌜ Answers (λ m. pinPage m name) memory areas r marks words bitmap ⌝ }
+    ensures { λ r. ⌜ Answers (λ m. pinPage m name) memory areas r marks words bitmap owners ⌝ }
 {
-    change_kind(memory, areas, marks, words, bitmap, name, MOVABLE, PINNED)
+    change_kind(
+        memory,
+        areas,
+        marks,
+        words,
+        bitmap,
+        owners,
+        name,
+        MOVABLE,
+        PINNED,
+    )
 }
 
 // A pinned page is movable again.
@@ -249,11 +268,22 @@ pub fn unpin_page(
     marks: &mut [u32],
     words: &[u64],
     bitmap: &[u64],
+    owners: &[u32],
     name: u64,
 ) -> Answer
-    ensures { λ r. ⌜ Answers (λ m. unpinPage m name) memory areas r marks words bitmap ⌝ }
+    ensures { λ r. ⌜ Answers (λ m. unpinPage m name) memory areas r marks words bitmap owners ⌝ }
 {
-    change_kind(memory, areas, marks, words, bitmap, name, PINNED, MOVABLE)
+    change_kind(
+        memory,
+        areas,
+        marks,
+        words,
+        bitmap,
+        owners,
+        name,
+        PINNED,
+        MOVABLE,
+    )
 }
 
 // The word becomes the page's, unless it is pinned.
@@ -263,12 +293,13 @@ pub fn store_page(
     marks: &[u32],
     words: &mut [u64],
     bitmap: &[u64],
+    owners: &[u32],
     name: u64,
     word: u64,
 ) -> Answer
-    ensures { λ r. ⌜ Answers (λ m. storePage m name word) memory areas r marks words bitmap ⌝ }
+    ensures { λ r. ⌜ Answers (λ m. storePage m name word) memory areas r marks words bitmap owners ⌝ }
 {
-    let found = look_up(memory, areas, marks, words, bitmap, name);
+    let found = look_up(memory, areas, marks, words, bitmap, owners, name);
     match found {
         Found::Not(number) => Answer::refused(number),
         Found::At(page) => {
@@ -289,11 +320,12 @@ pub fn read_page(
     marks: &[u32],
     words: &[u64],
     bitmap: &[u64],
+    owners: &[u32],
     name: u64,
 ) -> Answer
-    ensures { λ r. ⌜ Answers (λ m. readPage m name) memory areas r marks words bitmap ⌝ }
+    ensures { λ r. ⌜ Answers (λ m. readPage m name) memory areas r marks words bitmap owners ⌝ }
 {
-    let found = look_up(memory, areas, marks, words, bitmap, name);
+    let found = look_up(memory, areas, marks, words, bitmap, owners, name);
     match found {
         Found::Not(number) => Answer::refused(number),
         Found::At(page) => {

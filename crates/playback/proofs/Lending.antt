@@ -1,9 +1,10 @@
 -- How many frames a call is lent tables for, and what it is answered, by the lengths of the tables. Assumes nothing.
 --     not-boot                any call but a boot is lent tables for the machine's frames
---     few-marks, few-words    fewer entries than frames: refused with 1
+--     few-marks, few-words, few-owners    fewer entries than frames: refused with 1
 --     enough                  else the call is made on the entries that are lent
 --     answered                so what a call leaves of those entries, with the entries after them, is the answer
 use Prim.Native.Nat.{ℕ, _≤_, _<_}
+use mathlib.Core.Bool.{_||_}
 use mathlib.Core.Path.{_≡_, refl, sym, ap, _∙_}
 use mathlib.Core.List.{List, [], _∷_, _++_}
 use lib.ListN.{length, drop}
@@ -39,10 +40,10 @@ not-boot memory (Call.Pin name) h = refl
 not-boot memory (Call.Unpin name) h = refl
 not-boot memory (Call.Store name word) h = refl
 not-boot memory (Call.Read name) h = refl
-not-boot memory (Call.Grant area count align) h = refl
-not-boot memory (Call.Release area frame count) h = refl
-not-boot memory (Call.DeviceStore frame word) h = refl
-not-boot memory (Call.DeviceRead frame) h = refl
+not-boot memory (Call.Grant area count align device) h = refl
+not-boot memory (Call.Release area frame count device) h = refl
+not-boot memory (Call.DeviceStore frame word device) h = refl
+not-boot memory (Call.DeviceRead frame device) h = refl
 not-boot memory (Call.Declare request) h = refl
 not-boot memory (Call.Boot base frames blockOrder) h = absurd (miss others 12 tt h)
 
@@ -55,14 +56,26 @@ module _ (call : Call) (m : Record) (t : Tables) where
   unfolding answerTo
   few-words h = rw (or-right-true (ltb (length (t .marks)) (framesFor (m .memory) call)) (ltb (length (t .words)) (framesFor (m .memory) call)) (lt-ltb (length (t .words)) (framesFor (m .memory) call) h))
 
+  pub few-owners : length (t .owners) < framesFor (m .memory) call → answerTo call m t ≡ refuse m t 1
+  unfolding answerTo
+  few-owners h =
+      rw
+      (or-right-true (ltb (length (t .marks)) (framesFor (m .memory) call) || ltb (length (t .words)) (framesFor (m .memory) call))
+      (ltb (length (t .owners)) (framesFor (m .memory) call)) (lt-ltb (length (t .owners)) (framesFor (m .memory) call) h))
+
   abbrev made : Outcome
   made = perform call [] m (entriesFor (framesFor (m .memory) call) t)
 
   pub enough :
-      framesFor (m .memory) call ≤ length (t .marks) → framesFor (m .memory) call ≤ length (t .words)
+      framesFor (m .memory) call ≤ length (t .marks) → framesFor (m .memory) call ≤ length (t .words) → framesFor (m .memory) call ≤ length (t .owners)
       → answerTo call m t ≡ outcome (made .machine) (made .answer) (withEntries (framesFor (m .memory) call) t (made .left))
   unfolding answerTo
-  enough h k = rw (le-ltb (length (t .marks)) (framesFor (m .memory) call) h, le-ltb (length (t .words)) (framesFor (m .memory) call) k)
+  enough h k o =
+      rw (
+        le-ltb (length (t .marks)) (framesFor (m .memory) call) h,
+        le-ltb (length (t .words)) (framesFor (m .memory) call) k,
+        le-ltb (length (t .owners)) (framesFor (m .memory) call) o,
+      )
 
   abbrev around : ℕ → Outcome
   around n =
@@ -70,12 +83,12 @@ module _ (call : Call) (m : Record) (t : Tables) where
       outcome (o .machine) (o .answer) (withEntries n t (o .left))
 
   pub answered :
-      (n : ℕ) (after : Record) (r : Answer) (marks words bitmap : List ℕ)
+      (n : ℕ) (after : Record) (r : Answer) (marks words bitmap owners : List ℕ)
       → length (m .areas) ≡ mostAreaNumbers
-      → n ≡ framesFor (m .memory) call → n ≤ length (t .marks) → n ≤ length (t .words)
-      → outcome after r (tables marks words bitmap) ≡ withAllAreas (perform call []) m (entriesFor n t)
-      → outcome after r (tables (marks ++ drop n (t .marks)) (words ++ drop n (t .words)) bitmap) ≡ answerTo call m t
-  answered n after r marks words bitmap all e h k made-it =
+      → n ≡ framesFor (m .memory) call → n ≤ length (t .marks) → n ≤ length (t .words) → n ≤ length (t .owners)
+      → outcome after r (tables marks words bitmap owners) ≡ withAllAreas (perform call []) m (entriesFor n t)
+      → outcome after r (tables (marks ++ drop n (t .marks)) (words ++ drop n (t .words)) bitmap (owners ++ drop n (t .owners))) ≡ answerTo call m t
+  answered n after r marks words bitmap owners all e h k o made-it =
       ap (λ (w : Outcome). outcome (w .machine) (w .answer) (withEntries n t (w .left))) (made-it ∙ sym (asked (perform call []) m (entriesFor n t) all))
       ∙ ap (λ (f : ℕ). around f) e
-      ∙ sym (enough (rw e at h) (rw e at k))
+      ∙ sym (enough (rw e at h) (rw e at k) (rw e at o))

@@ -52,18 +52,18 @@ after-line : (p : Progress) (size next : ℕ) (after : List ℕ) (o : Outcome) �
 after-line p size next after o = playing (record { «record» = o .machine; at = p .at + size; text = next; step = p .step + 1 }) after (o .left)
 
 pub one-answered :
-    (p : Progress) (out : List ℕ) (t : Tables) (r : Call) (size : ℕ) (o : Returned) (areas marks words bitmap after : List ℕ) (next : ℕ)
+    (p : Progress) (out : List ℕ) (t : Tables) (r : Call) (size : ℕ) (o : Returned) (areas marks words bitmap owners after : List ℕ) (next : ℕ)
     → hasRoomFor (length out) (p .text) (p .step) ≡ true
-    → outcome (recordWith (o .machine .memory) areas) (o .answer) (tables marks words bitmap) ≡ answerTo r (p .«record») t
+    → outcome (recordWith (o .machine .memory) areas) (o .answer) (tables marks words bitmap owners) ≡ answerTo r (p .«record») t
     → Appended out (p .text) (lineOf (p .step) (o .answer .refusal) (o .answer .first) (o .answer .second)) after next
-    → playing (record { «record» = recordWith (o .machine .memory) areas; at = p .at + size; text = next; step = p .step + 1 }) after (tables marks words bitmap)
+    → playing (record { «record» = recordWith (o .machine .memory) areas; at = p .at + size; text = next; step = p .step + 1 }) after (tables marks words bitmap owners)
     ≡ answerOne (playing p out t) r size
 unfolding answerOne after-line
-one-answered p out t r size o areas marks words bitmap after next h e a =
+one-answered p out t r size o areas marks words bitmap owners after next h e a =
     let fits = line-has-room out p (o .answer .refusal) (o .answer .first) (o .answer .second) h in
     let place = rw fits at (a .place) in
     let bytes = rw fits at (a .bytes) in
-    let made = outcome (recordWith (o .machine .memory) areas) (o .answer) (tables marks words bitmap) in
+    let made = outcome (recordWith (o .machine .memory) areas) (o .answer) (tables marks words bitmap owners) in
     ap (λ (n : ℕ). after-line p size n after made) place
     ∙ ap (λ (l : List ℕ). after-line p size (p .text + length (lineFor (p .step) (o .answer))) l made) bytes
     ∙ ap (λ (w : Outcome). playing (progressAfter p w size) (written out (p .text) (lineFor (p .step) (w .answer))) (w .left)) e

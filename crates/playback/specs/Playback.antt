@@ -30,13 +30,14 @@ use Rattle.playback.specs.declared.Stopped.{Stopped}
 unfoldable pub framesFor : Memory → Call → ℕ
 framesFor memory call = roleOf call .frames (memory .frames)
 
--- the entries of marks and words that are lent, and the whole bitmap
+-- the entries of marks, words and owners that are lent, and the whole bitmap
 abbrev pub entriesFor : ℕ → Tables → Tables
-entriesFor n t = tables (take n (t .marks)) (take n (t .words)) (t .bitmap)
+entriesFor n t = tables (take n (t .marks)) (take n (t .words)) (t .bitmap) (take n (t .owners))
 
 -- the tables after the lent entries are as a call left them: the entries after those are kept
 abbrev pub withEntries : ℕ → Tables → Tables → Tables
-withEntries n t left = tables (left .marks ++ drop n (t .marks)) (left .words ++ drop n (t .words)) (left .bitmap)
+withEntries n t left =
+    tables (left .marks ++ drop n (t .marks)) (left .words ++ drop n (t .words)) (left .bitmap) (left .owners ++ drop n (t .owners))
 
 -- what a record's call is answered: 1 where the tables hold fewer entries than frames; else it is made, lent an entry for each frame. A
 -- boot has the empty text
@@ -44,7 +45,7 @@ unfoldable pub answerTo : Call → Record → Tables → Outcome
 answerTo call m t =
     let n = framesFor (m .memory) call in
     let o = perform call [] m (entriesFor n t) in
-    if ltb (length (t .marks)) n || ltb (length (t .words)) n then refuse m t 1
+    if ltb (length (t .marks)) n || ltb (length (t .words)) n || ltb (length (t .owners)) n then refuse m t 1
     else outcome (o .machine) (o .answer) (withEntries n t (o .left))
 
 -- ---- record after record

@@ -48,7 +48,7 @@ linesOf bytes m t = linesUpTo (length bytes) bytes 0 0 m t
 
 -- its tables, all zero
 abbrev pub heldTables : Tables
-heldTables = tables (replicate heldFrames 0) (replicate heldFrames 0) (replicate heldBitmapWords 0)
+heldTables = tables (replicate heldFrames 0) (replicate heldFrames 0) (replicate heldBitmapWords 0) (replicate heldFrames 0)
 
 -- the heading, and the lines from a fresh machine and zero tables on
 unfoldable pub replayOutput : List ℕ → List ℕ

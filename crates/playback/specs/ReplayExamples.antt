@@ -25,9 +25,9 @@ declareA =
     0 ∷ 0 ∷ 0 ∷ 0 ∷ 0 ∷ 0 ∷ 0 ∷ 0 ∷
     0 ∷ 0 ∷ 0 ∷ 0 ∷ 0 ∷ 0 ∷ 0 ∷ 0 ∷ 0 ∷ 1 ∷ []
 
--- grant 3 of area 0 at order 0
+-- grant 3 of area 0 at order 0, to device 1
 abbrev pub grant3 : List ℕ
-grant3 = 8 ∷ 0 ∷ 0 ∷ 3 ∷ 0 ∷ 0 ∷ 0 ∷ []
+grant3 = 8 ∷ 0 ∷ 0 ∷ 3 ∷ 0 ∷ 0 ∷ 0 ∷ 1 ∷ 0 ∷ []
 
 abbrev pub putMovable7 : List ℕ
 putMovable7 = 1 ∷ 7 ∷ 0 ∷ 0 ∷ 0 ∷ []

@@ -35,18 +35,19 @@ fn frames_for(machine: Machine, call: Call) -> u64
     }
 }
 
-// A call, lent an entry of marks and words for each frame. A boot that asks for more frames than the tables hold is refused; a machine
+// A call, lent an entry of marks, words and owners for each frame. A boot that asks for more frames than the tables hold is refused; a machine
 // never has more, since no such boot was accepted.
 pub(crate) fn answer(
     areas: &mut [u64],
     marks: &mut [u32],
     words: &mut [u64],
     bitmap: &mut [u64],
+    owners: &mut [u32],
     machine: Machine,
     call: Call,
 ) -> Returned
     requires { ⌜ length (now areas) ≡ mostAreaNumbers ⌝ }
-    ensures { λ r. ⌜ Does (answerTo call) machine areas r marks words bitmap ⌝ }
+    ensures { λ r. ⌜ Does (answerTo call) machine areas r marks words bitmap owners ⌝ }
 {
     let frames = frames_for(machine, call);
     if (marks.len() as u64) < frames {
@@ -55,6 +56,17 @@ pub(crate) fn answer(
     if (words.len() as u64) < frames {
         return wrong_shape(machine);
     }
+    if (owners.len() as u64) < frames {
+        return wrong_shape(machine);
+    }
     let n = frames as usize;
-    machine.perform(areas, &mut marks[0..n], &mut words[0..n], bitmap, call, b"")
+    machine.perform(
+        areas,
+        &mut marks[0..n],
+        &mut words[0..n],
+        bitmap,
+        &mut owners[0..n],
+        call,
+        b"",
+    )
 }

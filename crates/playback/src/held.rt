@@ -24,3 +24,9 @@ pub fn bitmap() -> [u64; BITMAP_WORDS]
 {
     [0; BITMAP_WORDS]
 }
+
+pub fn owners() -> [u32; FRAMES]
+    ensures { λ r. ⌜ r ≡ replicate heldFrames 0 ⌝ }
+{
+    [0; FRAMES]
+}

@@ -95,15 +95,16 @@ fn answer_one(
     marks: &mut [u32],
     words: &mut [u64],
     bitmap: &mut [u64],
+    owners: &mut [u32],
     p: Going,
     call: Call,
     size: usize,
 ) -> Going
     requires { ⌜ (hasRoomFor (length (now out)) (p .text) (p .step) ≡ true) × (p .at + size ≤ mostNumber) × (length (now areas) ≡ mostAreaNumbers) ⌝ }
-    ensures { λ r. ⌜ playing (progressWith r (now (areas .exit))) (now (out .exit)) (leaving marks words bitmap) ≡ answerOne (playing (progressWith p (now (areas .entry))) (now (out .entry)) (entering marks words bitmap)) call size ⌝ }
+    ensures { λ r. ⌜ playing (progressWith r (now (areas .exit))) (now (out .exit)) (leaving marks words bitmap owners) ≡ answerOne (playing (progressWith p (now (areas .entry))) (now (out .entry)) (entering marks words bitmap owners)) call size ⌝ }
 {
     let before = p.machine;
-    let returned = answer(areas, marks, words, bitmap, before, call);
+    let returned = answer(areas, marks, words, bitmap, owners, before, call);
     let machine = returned.machine;
     let a = returned.answer;
     let text = lines::put_line(out, p.text, p.step, a.refusal, a.first, a.second);
@@ -122,9 +123,10 @@ pub fn answer_records(
     marks: &mut [u32],
     words: &mut [u64],
     bitmap: &mut [u64],
+    owners: &mut [u32],
     start: Progress,
 ) -> Stopped
-    ensures { λ r. ⌜ played r (now (out .exit)) (leaving marks words bitmap) ≡ answerRecords (now (bytes .entry)) (playing start (now (out .entry)) (entering marks words bitmap)) ⌝ }
+    ensures { λ r. ⌜ played r (now (out .exit)) (leaving marks words bitmap owners) ≡ answerRecords (now (bytes .entry)) (playing start (now (out .entry)) (entering marks words bitmap owners)) ⌝ }
 {
     let mut areas = start.record.areas;
     let memory = start.record.memory;
@@ -143,7 +145,7 @@ pub fn answer_records(
         let found = records::decode(bytes, at);
         match found {
             Decoded::Whole(call, size) => {
-                p = answer_one(out, &mut areas, marks, words, bitmap, p, call, size);
+                p = answer_one(out, &mut areas, marks, words, bitmap, owners, p, call, size);
             }
             Decoded::Unknown => {
                 return stops(p, areas, Stop::Unknown);

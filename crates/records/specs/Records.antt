@@ -28,6 +28,9 @@ body ws f = record { widths = ws; gives = f }
 abbrev pub u8 : ℕ
 u8 = 1
 
+abbrev pub u16 : ℕ
+u16 = 2
+
 abbrev pub u32 : ℕ
 u32 = 4
 
@@ -49,10 +52,11 @@ bodies =
     named Call.Unpin ∷
     body (u32 ∷ u64 ∷ []) (λ n. Call.Store (n 0) (n 1)) ∷
     named Call.Read ∷
-    body (u8 ∷ u8 ∷ u32 ∷ []) (λ n. Call.Grant (n 0) (n 2) (n 1)) ∷
-    body (u8 ∷ u64 ∷ u32 ∷ []) (λ n. Call.Release (n 0) (frame (n 1)) (n 2)) ∷
-    body (u64 ∷ u64 ∷ []) (λ n. Call.DeviceStore (frame (n 0)) (n 1)) ∷
-    body (u64 ∷ []) (λ n. Call.DeviceRead (frame (n 0))) ∷
+    -- document 02, request (vii): the device comes last
+    body (u8 ∷ u8 ∷ u32 ∷ u16 ∷ []) (λ n. Call.Grant (n 0) (n 2) (n 1) (n 3)) ∷
+    body (u8 ∷ u64 ∷ u32 ∷ u16 ∷ []) (λ n. Call.Release (n 0) (frame (n 1)) (n 2) (n 3)) ∷
+    body (u64 ∷ u64 ∷ u16 ∷ []) (λ n. Call.DeviceStore (frame (n 0)) (n 1) (n 2)) ∷
+    body (u64 ∷ u16 ∷ []) (λ n. Call.DeviceRead (frame (n 0)) (n 1)) ∷
     body (u64 ∷ u64 ∷ u64 ∷ u64 ∷ u8 ∷ u8 ∷ [])
     (λ n. Call.Declare record { base = n 0; size = n 1; limit = n 2; alignment = n 3; «order_per_bit» = n 4; fixed = not (eqb (n 5) 0) }) ∷
     []

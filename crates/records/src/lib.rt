@@ -1,4 +1,5 @@
-// Document 01, "Replay records": the call that a record stands for, read from bytes, and in `lines` the text that is written for it.
+// Document 01, "Replay records", with the devices of document 02, request (vii): the call that a record stands for, read from bytes,
+// and in `lines` the text that is written for it.
 ghost use mathlib.Core.Path.{_≡_};
 ghost use Prim.Native.Nat.{_+_, _≤_, _<_};
 ghost use lib.ListN.{length};
@@ -33,10 +34,10 @@ pub fn body_length(kind: u8) -> usize
         5 => 4,
         6 => 12,
         7 => 4,
-        8 => 6,
-        9 => 13,
-        10 => 16,
-        11 => 8,
+        8 => 8,
+        9 => 15,
+        10 => 18,
+        11 => 10,
         12 => 34,
         _ => 0,
     }
@@ -79,34 +80,47 @@ fn store(bytes: &[u8], at: usize) -> Call
 }
 
 fn grant(bytes: &[u8], at: usize) -> Call
-    requires { ⌜ at + 6 ≤ length (now bytes) ⌝ }
+    requires { ⌜ at + 8 ≤ length (now bytes) ⌝ }
     ensures { λ r. ⌜ r ≡ bodyAt 8 (now (bytes .entry)) at ⌝ }
 {
     Call::Grant {
         area: number(bytes, at, 1),
         count: number(bytes, at + 2, 4),
         align: number(bytes, at + 1, 1),
+        device: number(bytes, at + 6, 2),
     }
 }
 
 fn release(bytes: &[u8], at: usize) -> Call
-    requires { ⌜ at + 13 ≤ length (now bytes) ⌝ }
+    requires { ⌜ at + 15 ≤ length (now bytes) ⌝ }
     ensures { λ r. ⌜ r ≡ bodyAt 9 (now (bytes .entry)) at ⌝ }
 {
     Call::Release {
         area: number(bytes, at, 1),
         frame: Frame(number(bytes, at + 1, 8)),
         count: number(bytes, at + 9, 4),
+        device: number(bytes, at + 13, 2),
     }
 }
 
 fn device_store(bytes: &[u8], at: usize) -> Call
-    requires { ⌜ at + 16 ≤ length (now bytes) ⌝ }
+    requires { ⌜ at + 18 ≤ length (now bytes) ⌝ }
     ensures { λ r. ⌜ r ≡ bodyAt 10 (now (bytes .entry)) at ⌝ }
 {
     Call::DeviceStore {
         frame: Frame(number(bytes, at, 8)),
         word: number(bytes, at + 8, 8),
+        device: number(bytes, at + 16, 2),
+    }
+}
+
+fn device_read(bytes: &[u8], at: usize) -> Call
+    requires { ⌜ at + 10 ≤ length (now bytes) ⌝ }
+    ensures { λ r. ⌜ r ≡ bodyAt 11 (now (bytes .entry)) at ⌝ }
+{
+    Call::DeviceRead {
+        frame: Frame(number(bytes, at, 8)),
+        device: number(bytes, at + 8, 2),
     }
 }
 
@@ -154,9 +168,7 @@ fn body(bytes: &[u8], at: usize, kind: u8) -> Call
         8 => grant(bytes, at),
         9 => release(bytes, at),
         10 => device_store(bytes, at),
-        11 => Call::DeviceRead {
-            frame: Frame(number(bytes, at, 8)),
-        },
+        11 => device_read(bytes, at),
         _ => declare(bytes, at),
     }
 }

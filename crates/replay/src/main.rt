@@ -199,6 +199,7 @@ fn turn(
     marks: &mut [u32],
     words: &mut [u64],
     bitmap: &mut [u64],
+    owners: &mut [u32],
     s: State,
 ) -> State
     requires { ⌜ Bounds s × (length (now input) ≡ block) × (0 < s .left) ⌝ }
@@ -212,7 +213,15 @@ fn turn(
         text: 0,
         step: s.step,
     };
-    let stopped = playback::answer_records(&input[0..filled], out, marks, words, bitmap, from);
+    let stopped = playback::answer_records(
+        &input[0..filled],
+        out,
+        marks,
+        words,
+        bitmap,
+        owners,
+        from,
+    );
     let p = stopped.progress;
     let why = stopped.why;
     let record = p.record;
@@ -242,9 +251,18 @@ fn main() {
     let mut marks = held::marks();
     let mut words = held::words();
     let mut bitmap = held::bitmap();
+    let mut owners = held::owners();
     write_heading();
     let mut s = start();
     while s.left > 0 {
-        s = turn(&mut input, &mut out, &mut marks, &mut words, &mut bitmap, s);
+        s = turn(
+            &mut input,
+            &mut out,
+            &mut marks,
+            &mut words,
+            &mut bitmap,
+            &mut owners,
+            s,
+        );
     }
 }

@@ -16,7 +16,7 @@ use Rattle.rules.proofs.promises.Grants.{grant-is-first-fit}
 use Rattle.rules.proofs.promises.Pages.{accepted-put-movable, accepted-put-fixed, live-if-stands, accepted-drop, accepted-pin, accepted-unpin, accepted-store, accepted-read, store-then-read, pinned-pages-stay}
 use Rattle.rules.proofs.promises.Releases.{accepted-release}
 use Rattle.rules.proofs.promises.Taken.{accepted-grant, freed-room-is-used}
-use Rattle.rules.proofs.promises.Unchanged.{refusal-changes-nothing, text-is-boots}
+use Rattle.rules.proofs.promises.Unchanged.{refusal-changes-nothing, text-is-boots, owners-stay}
 
 pub all-promises : AllPromises
 all-promises =
@@ -29,6 +29,7 @@ all-promises =
       boot-place = boot-answers-place;
       refusal = refusal-changes-nothing;
       text = text-is-boots;
+      owners = owners-stay;
       put-movable = accepted-put-movable;
       put-fixed = accepted-put-fixed;
       live = live-if-stands;

@@ -27,6 +27,7 @@ bare-shape base frames blockOrder t e =
       declared = omega arith;
       marks = length-replicate (length (t .marks)) 0 ∙ lengths .0;
       words = length-replicate (length (t .words)) 0 ∙ lengths .1;
+      owners = length-replicate (length (t .owners)) 0 ∙ lengths .2;
       areas = every-none (areaFits b) 0;
       bitmap = omega arith;
     })

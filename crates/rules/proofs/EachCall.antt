@@ -22,7 +22,7 @@ use Rattle.rules.specs.Calls.{perform}
 use Rattle.rules.proofs.Checks.{numbered}
 
 abbrev pub otherWords : Tables → List ℕ → Tables
-otherWords t words = tables (t .marks) words (t .bitmap)
+otherWords t words = tables (t .marks) words (t .bitmap) (t .owners)
 
 -- the shape is checked first, and then the rest
 abbrev pub shapeFirst : Record → Tables → List Check → Outcome → Outcome
@@ -49,10 +49,10 @@ module _ (P : Call → Record → Tables → List ℕ → Outcome → Outcome �
   each-twice (Call.Unpin name) text m t words = of-checks _ m t words _ _ _ refl refl
   each-twice (Call.Store name word) text m t words = of-checks _ m t words _ _ _ refl refl
   each-twice (Call.Read name) text m t words = of-checks _ m t words _ _ _ refl refl
-  each-twice (Call.Grant area count alignOrder) text m t words = of-checks _ m t words _ _ _ refl refl
-  each-twice (Call.Release area f count) text m t words = of-checks _ m t words _ _ _ refl refl
-  each-twice (Call.DeviceStore f word) text m t words = of-checks _ m t words _ _ _ refl refl
-  each-twice (Call.DeviceRead f) text m t words = of-checks _ m t words _ _ _ refl refl
+  each-twice (Call.Grant area count alignOrder device) text m t words = of-checks _ m t words _ _ _ refl refl
+  each-twice (Call.Release area f count device) text m t words = of-checks _ m t words _ _ _ refl refl
+  each-twice (Call.DeviceStore f word device) text m t words = of-checks _ m t words _ _ _ refl refl
+  each-twice (Call.DeviceRead f device) text m t words = of-checks _ m t words _ _ _ refl refl
   each-twice (Call.Declare request) text m t words = of-checks _ m t words _ _ _ refl refl
   each-twice (Call.Boot base frames blockOrder) text m t words = of-boot base frames blockOrder text m t words
 

@@ -18,6 +18,7 @@ use Rattle.frames.proofs.AreaNumbers.{area-set-same, area-set-other}
 use Rattle.rules.specs.declared.Record.{Record}
 use Rattle.rules.specs.Record.{areaAt, frameAt, isOrdinary}
 use Rattle.rules.specs.Limits.{mostAreas, mostAreaNumbers}
+use Rattle.rules.specs.promises.Changes.{SameLengths}
 use Rattle.rules.specs.Shape.{areaRight, areaFits, wordsNeeded, shapeRight}
 use Rattle.rules.specs.PageCalls.{isFree, freeOrdinary}
 use Rattle.rules.specs.Declare.{withArea}
@@ -95,23 +96,22 @@ module _ (m : Record) (t : Tables) (a : Area) (shape : shapeRight m t ≡ true) 
 
     pub new-shape :
         (t′ : Tables) →
-        length (t′ .marks) ≡ length (t .marks) →
-        length (t′ .words) ≡ length (t .words) →
-        length (t′ .bitmap) ≡ length (t .bitmap) → wordsNeeded m + wordCount a ≤ length (t .bitmap) → shapeRight m′ t′ ≡ true
-    new-shape t′ marks words bitmap room =
+        SameLengths t t′ → wordsNeeded m + wordCount a ≤ length (t .bitmap) → shapeRight m′ t′ ≡ true
+    new-shape t′ same room =
         let s = shape-known m t shape in
         facts-shape m′ t′
         (record {
           memory = shape-memory m t shape;
           declared = more;
-          marks = marks ∙ s .marks-length;
-          words = words ∙ s .words-length;
+          marks = same .marks ∙ s .marks-length;
+          words = same .words ∙ s .words-length;
+          owners = same .owners ∙ s .owners-length;
           areas = all-every (areaFits m′) 0 (suc (m .memory .declared))
               (λ k u v.
               below-or-not k (m .memory .declared)
               (λ h. fits-old k h ∙ s .areas-fit k h)
               (λ h. let here : k ≡ m .memory .declared = omega arith in rw here fits-new));
-          bitmap = rw (words-new, bitmap) room;
+          bitmap = rw (words-new, same .bitmap) room;
         })
 
     -- a frame that is ordinary and not free stays ordinary

@@ -42,8 +42,8 @@ declare-cases P m r t refused passed =
 module _ (m : Record) (r : Request) (t : Tables) (shape : shapeRight m t ≡ true) (records : length (m .areas) ≡ mostAreaNumbers) (d : Declarable m r t) where
   pub declared-shape : shapeRight (withArea m (newArea m r t)) (newTables m r t) ≡ true
   declared-shape =
-      new-shape m t (newArea m r t) shape records (d .more) (d .right) (d .vacant) (newTables m r t) refl refl
-      (length-fill 0 (t .bitmap) (wordsNeeded m) (wordCount (newArea m r t))) (d .room)
+      new-shape m t (newArea m r t) shape records (d .more) (d .right) (d .vacant) (newTables m r t)
+      (record { marks = refl; words = refl; bitmap = length-fill 0 (t .bitmap) (wordsNeeded m) (wordCount (newArea m r t)); owners = refl }) (d .room)
 
   pub declared-records : length (withArea m (newArea m r t) .areas) ≡ mostAreaNumbers
   declared-records = length-set-area (m .areas) (m .memory .declared) (newArea m r t) ∙ records

@@ -2,8 +2,9 @@
 --     Shaped, facts-shape    the facts that make it right
 --     shape-memory, lengths-facts    two of its tests
 --     shape-lengths          it goes by the tables' lengths alone
-use Prim.Native.Nat.{_≤_}
+use Prim.Native.Nat.{ℕ, _≤_}
 use mathlib.Core.Bool.{Bool, true, _&&_}
+use mathlib.Core.List.{List}
 use mathlib.Core.Path.{_≡_}
 use lib.Dec.{leb, eqb}
 use lib.ListN.{length}
@@ -13,6 +14,7 @@ use Rattle.search.proofs.Bools.{and-left, and-right, and-both}
 use Rattle.frames.specs.Tables.{Tables}
 use Rattle.rules.specs.declared.Record.{Record}
 use Rattle.rules.specs.Limits.{mostAreas}
+use Rattle.rules.specs.promises.Changes.{SameLengths}
 use Rattle.rules.specs.Shape.{memoryRight, lengthsRight, areaFits, wordsNeeded, shapeRight}
 
 pub record Shaped (m : Record) (t : Tables) : Type 0 where
@@ -20,6 +22,7 @@ pub record Shaped (m : Record) (t : Tables) : Type 0 where
   pub declared : m .memory .declared ≤ mostAreas
   pub marks : length (t .marks) ≡ m .memory .frames
   pub words : length (t .words) ≡ m .memory .frames
+  pub owners : length (t .owners) ≡ m .memory .frames
   pub areas : every (areaFits m) 0 (m .memory .declared) ≡ true
   pub bitmap : wordsNeeded m ≤ length (t .bitmap)
 
@@ -39,18 +42,27 @@ module _ (m : Record) (t : Tables) where
   abbrev bitmapTest : Bool
   bitmapTest = leb (wordsNeeded m) (length (t .bitmap))
 
-  pub lengths-facts : lengthsTest ≡ true → (length (t .marks) ≡ m .memory .frames) × (length (t .words) ≡ m .memory .frames)
-  unfolding lengthsRight
-  lengths-facts e = (
-    eqb-true (length (t .marks)) (m .memory .frames) (and-left (eqb (length (t .marks)) (m .memory .frames)) (eqb (length (t .words)) (m .memory .frames)) e),
-    eqb-true (length (t .words)) (m .memory .frames) (and-right (eqb (length (t .marks)) (m .memory .frames)) (eqb (length (t .words)) (m .memory .frames)) e),
-  )
+  abbrev asLong : List ℕ → Bool
+  asLong table = eqb (length table) (m .memory .frames)
 
-  pub facts-lengths : length (t .marks) ≡ m .memory .frames → length (t .words) ≡ m .memory .frames → lengthsTest ≡ true
+  pub lengths-facts :
+      lengthsTest ≡ true →
+      (length (t .marks) ≡ m .memory .frames) × (length (t .words) ≡ m .memory .frames) × (length (t .owners) ≡ m .memory .frames)
   unfolding lengthsRight
-  facts-lengths a b =
-      and-both (eqb (length (t .marks)) (m .memory .frames)) (eqb (length (t .words)) (m .memory .frames)) (eq-eqb (length (t .marks)) (m .memory .frames) a)
-      (eq-eqb (length (t .words)) (m .memory .frames) b)
+  lengths-facts e =
+      let two = and-left (asLong (t .marks) && asLong (t .words)) (asLong (t .owners)) e in (
+        eqb-true (length (t .marks)) (m .memory .frames) (and-left (asLong (t .marks)) (asLong (t .words)) two),
+        eqb-true (length (t .words)) (m .memory .frames) (and-right (asLong (t .marks)) (asLong (t .words)) two),
+        eqb-true (length (t .owners)) (m .memory .frames) (and-right (asLong (t .marks) && asLong (t .words)) (asLong (t .owners)) e),
+      )
+
+  pub facts-lengths :
+      length (t .marks) ≡ m .memory .frames → length (t .words) ≡ m .memory .frames → length (t .owners) ≡ m .memory .frames → lengthsTest ≡ true
+  unfolding lengthsRight
+  facts-lengths a b c =
+      and-both (asLong (t .marks) && asLong (t .words)) (asLong (t .owners))
+      (and-both (asLong (t .marks)) (asLong (t .words)) (eq-eqb (length (t .marks)) (m .memory .frames) a) (eq-eqb (length (t .words)) (m .memory .frames) b))
+      (eq-eqb (length (t .owners)) (m .memory .frames) c)
 
   pub shape-memory : shapeRight m t ≡ true → memoryTest ≡ true
   unfolding shapeRight
@@ -66,14 +78,11 @@ module _ (m : Record) (t : Tables) where
       rw (
         s .memory,
         le-leb (m .memory .declared) mostAreas (s .declared),
-        facts-lengths (s .marks) (s .words),
+        facts-lengths (s .marks) (s .words) (s .owners),
         s .areas,
         le-leb (wordsNeeded m) (length (t .bitmap)) (s .bitmap),
       )
 
-pub shape-lengths :
-    (m : Record) (t t′ : Tables) →
-    length (t′ .marks) ≡ length (t .marks) →
-    length (t′ .words) ≡ length (t .words) → length (t′ .bitmap) ≡ length (t .bitmap) → shapeRight m t′ ≡ shapeRight m t
+pub shape-lengths : (m : Record) (t t′ : Tables) → SameLengths t t′ → shapeRight m t′ ≡ shapeRight m t
 unfolding shapeRight lengthsRight
-shape-lengths m t t′ a b c = rw (a, b, c)
+shape-lengths m t t′ s = rw (s .marks, s .words, s .bitmap, s .owners)

@@ -43,6 +43,7 @@ pub record Shape (m : Record) (t : Tables) : Type 0 where
   pub marks-length : length (t .marks) ≡ m .memory .frames
   pub words-length : length (t .words) ≡ m .memory .frames
   pub areas-fit : (i : ℕ) → i < m .memory .declared → areaFits m i ≡ true
+  pub owners-length : length (t .owners) ≡ m .memory .frames
   pub bitmap-high : wordsNeeded m ≤ length (t .bitmap)
 
 pub shape-known : (m : Record) (t : Tables) → shapeRight m t ≡ true → Shape m t
@@ -52,17 +53,19 @@ shape-known m t e =
     let b : Bool = leb (m .memory .declared) mostAreas in
     let c₁ : Bool = eqb (length (t .marks)) (m .memory .frames) in
     let c₂ : Bool = eqb (length (t .words)) (m .memory .frames) in
+    let c₃ : Bool = eqb (length (t .owners)) (m .memory .frames) in
     let d : Bool = every (areaFits m) 0 (m .memory .declared) in
     let f : Bool = leb (wordsNeeded m) (length (t .bitmap)) in
-    let abcd = and-left (a && b && (c₁ && c₂) && d) f e in
-    let abc = and-left (a && b && (c₁ && c₂)) d abcd in
-    let ab = and-left (a && b) (c₁ && c₂) abc in
-    let c = and-right (a && b) (c₁ && c₂) abc in
+    let abcd = and-left (a && b && (c₁ && c₂ && c₃) && d) f e in
+    let abc = and-left (a && b && (c₁ && c₂ && c₃)) d abcd in
+    let ab = and-left (a && b) (c₁ && c₂ && c₃) abc in
+    let c = and-right (a && b) (c₁ && c₂ && c₃) abc in
     record {
       memory = memory-known _ _ _ (and-left a b ab);
       declared-high = leb-true (m .memory .declared) mostAreas (and-right a b ab);
-      marks-length = eqb-true (length (t .marks)) (m .memory .frames) (and-left c₁ c₂ c);
-      words-length = eqb-true (length (t .words)) (m .memory .frames) (and-right c₁ c₂ c);
-      areas-fit = λ i h. every-all (areaFits m) 0 (m .memory .declared) (and-right (a && b && (c₁ && c₂)) d abcd) i (omega arith) (omega arith);
-      bitmap-high = leb-true (wordsNeeded m) (length (t .bitmap)) (and-right (a && b && (c₁ && c₂) && d) f e);
+      marks-length = eqb-true (length (t .marks)) (m .memory .frames) (and-left c₁ c₂ (and-left (c₁ && c₂) c₃ c));
+      words-length = eqb-true (length (t .words)) (m .memory .frames) (and-right c₁ c₂ (and-left (c₁ && c₂) c₃ c));
+      owners-length = eqb-true (length (t .owners)) (m .memory .frames) (and-right (c₁ && c₂) c₃ c);
+      areas-fit = λ i h. every-all (areaFits m) 0 (m .memory .declared) (and-right (a && b && (c₁ && c₂ && c₃)) d abcd) i (omega arith) (omega arith);
+      bitmap-high = leb-true (wordsNeeded m) (length (t .bitmap)) (and-right (a && b && (c₁ && c₂ && c₃) && d) f e);
     }

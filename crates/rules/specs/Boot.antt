@@ -17,9 +17,11 @@ use Rattle.rules.specs.Declare.{declare}
 use Rattle.rules.specs.Shape.{memoryRight, lengthsRight}
 use Rattle.rules.specs.Outcomes.{Outcome, outcome}
 
--- all three tables zero, spare bitmap words too
+-- all four tables zero, spare bitmap words too
 abbrev pub zeroTables : Tables → Tables
-zeroTables t = tables (replicate (length (t .marks)) 0) (replicate (length (t .words)) 0) (replicate (length (t .bitmap)) 0)
+zeroTables t =
+    tables (replicate (length (t .marks)) 0) (replicate (length (t .words)) 0) (replicate (length (t .bitmap)) 0)
+    (replicate (length (t .owners)) 0)
 
 -- a region's declaration: a nonzero start is fixed, k and limit are 0
 abbrev pub requestOf : Region → Request

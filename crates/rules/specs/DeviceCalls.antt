@@ -1,4 +1,4 @@
--- Document 01, "Device calls".
+-- Document 01, "Device calls", with the devices of document 02, request (vii).
 use Prim.Native.Nat.{ℕ, zero, suc, _+_, _-_, _^_}
 use mathlib.Core.Bool.{Bool, not, _&&_, _||_}
 use mathlib.Core.List.{List, [], _∷_}
@@ -14,11 +14,11 @@ use Rattle.frames.specs.declared.Place.{Place}
 use Rattle.frames.specs.Units.{place, bit}
 use Rattle.frames.specs.Marks.{markOf, fieldOf, hasKind, canLeave, isGranted, movable, head, later}
 use Rattle.frames.specs.Areas.{isMultiple, endOf, perBit, bitCount, firstWord, frameOfBit, bitOfFrame, bitsFor}
-use Rattle.frames.specs.Tables.{Tables, markAt, wordAt, setPage, fillPages, withBitmap}
+use Rattle.frames.specs.Tables.{Tables, markAt, wordAt, ownerAt, setPage, fill, fillPages, withBitmap, withOwners}
 use Rattle.rules.specs.declared.Memory.{Memory}
 use Rattle.rules.specs.declared.Record.{Record}
 use Rattle.rules.specs.Record.{areaAt, placeOf}
-use Rattle.rules.specs.Limits.{mostAlignOrder}
+use Rattle.rules.specs.Limits.{mostAlignOrder, leastDevice, mostDevice}
 use Rattle.rules.specs.Shape.{shapeWrong}
 use Rattle.rules.specs.Outcomes.{Outcome, outcome, Check, _⇒_, checked}
 use Rattle.rules.specs.PageCalls.{lowestPlace, freeOrdinary}
@@ -31,7 +31,14 @@ bitmapOf m i = firstWord (m .areas) i
 abbrev pub placeOfBit : Record → ℕ → Bit → Place
 placeOfBit m i j = placeOf m (frameOfBit (areaAt m i) j)
 
--- ---- Grant (area, count, alignment order)
+-- no device has that number; the frame has another owner, or none
+abbrev pub badDevice : ℕ → Bool
+badDevice device = ltb device leastDevice || ltb mostDevice device
+
+abbrev pub notOwner : Record → Tables → Frame → ℕ → Bool
+notOwner m t f device = not (eqb (ownerAt t (placeOf m f)) device)
+
+-- ---- Grant (area, count, alignment order, device)
 
 -- a candidate starts on a bit, its physical frame is a multiple of 2^alignOrder, and its bits lie in the area and are clear
 unfoldable pub isCandidate : Record → Tables → ℕ → ℕ → ℕ → Bit → Bool
@@ -71,32 +78,34 @@ moveOut m t p (suc d) = moveOut m (movePage m t p) (place (suc (p .0))) d
 abbrev pub markRun : Tables → Place → ℕ → Tables
 markRun t p count = fillPages (setPage t p (markOf count head) 0) (place (suc (p .0))) (count - 1) (markOf 0 later) 0
 
--- what a grant of the run at bit j leaves
-unfoldable pub takeRun : Record → Tables → ℕ → ℕ → Bit → Tables
-takeRun m t i count j =
-    withBitmap (markRun (moveOut m t (placeOfBit m i j) count) (placeOfBit m i j) count)
-    (setBits (t .bitmap) (bitmapOf m i) (j .0) (bitsFor (areaAt m i) count))
+-- what a grant of the run at bit j to a device leaves
+unfoldable pub takeRun : Record → Tables → ℕ → ℕ → Bit → ℕ → Tables
+takeRun m t i count j device =
+    withOwners
+    (withBitmap (markRun (moveOut m t (placeOfBit m i j) count) (placeOfBit m i j) count)
+    (setBits (t .bitmap) (bitmapOf m i) (j .0) (bitsFor (areaAt m i) count)))
+    (fill (t .owners) (placeOfBit m i j .0) count device)
 
 -- no area has that number
 abbrev pub isUnknown : Memory → ℕ → Bool
 isUnknown memory i = leb (memory .declared) i
 
-abbrev pub grantChecks : Record → ℕ → ℕ → ℕ → Tables → List Check
-grantChecks m i count alignOrder t =
+abbrev pub grantChecks : Record → ℕ → ℕ → ℕ → ℕ → Tables → List Check
+grantChecks m i count alignOrder device t =
     let j = chosen m t i count alignOrder in
     shapeWrong m t ⇒ 1 ∷
-    (isUnknown (m .memory) i || eqb count 0 || ltb mostAlignOrder alignOrder) ⇒ 2 ∷
+    (isUnknown (m .memory) i || eqb count 0 || ltb mostAlignOrder alignOrder || badDevice device) ⇒ 2 ∷
     leb (bitCount (areaAt m i)) (j .0) ⇒ 7 ∷
     ltb (targets m t) (movers t (placeOfBit m i j) count) ⇒ 8 ∷
     []
 
-unfoldable pub grant : Record → ℕ → ℕ → ℕ → Tables → Outcome
-grant m i count alignOrder t =
+unfoldable pub grant : Record → ℕ → ℕ → ℕ → ℕ → Tables → Outcome
+grant m i count alignOrder device t =
     let j = chosen m t i count alignOrder in
-    checked m t (grantChecks m i count alignOrder t)
-    (outcome m (done (frameOfBit (areaAt m i) j .0) (movers t (placeOfBit m i j) count)) (takeRun m t i count j))
+    checked m t (grantChecks m i count alignOrder device t)
+    (outcome m (done (frameOfBit (areaAt m i) j .0) (movers t (placeOfBit m i j) count)) (takeRun m t i count j device))
 
--- ---- Release (area, frame, count)
+-- ---- Release (area, frame, count, device)
 
 -- the range is not inside the area
 abbrev pub outsideArea : Area → Frame → ℕ → Bool
@@ -112,37 +121,42 @@ laterFrames t p count = every (λ q. hasKind later (markAt t (place q))) (suc (p
 
 unfoldable pub freeRun : Record → Tables → ℕ → Frame → ℕ → Tables
 freeRun m t i f count =
-    withBitmap (fillPages t (placeOf m f) count 0 0)
-    (clearBits (t .bitmap) (bitmapOf m i) (bitOfFrame (areaAt m i) f .0) (bitsFor (areaAt m i) count))
+    withOwners
+    (withBitmap (fillPages t (placeOf m f) count 0 0)
+    (clearBits (t .bitmap) (bitmapOf m i) (bitOfFrame (areaAt m i) f .0) (bitsFor (areaAt m i) count)))
+    (fill (t .owners) (placeOf m f .0) count 0)
 
-abbrev pub releaseChecks : Record → ℕ → Frame → ℕ → Tables → List Check
-releaseChecks m i f count t =
+-- the first frame's owner alone is asked
+abbrev pub releaseChecks : Record → ℕ → Frame → ℕ → ℕ → Tables → List Check
+releaseChecks m i f count device t =
     let mark = markAt t (placeOf m f) in
     shapeWrong m t ⇒ 1 ∷
-    (isUnknown (m .memory) i || eqb count 0 || outsideArea (areaAt m i) f count) ⇒ 2 ∷
+    (isUnknown (m .memory) i || eqb count 0 || outsideArea (areaAt m i) f count || badDevice device) ⇒ 2 ∷
     (offBit (areaAt m i) f || not (hasKind head mark)) ⇒ 3 ∷
+    notOwner m t f device ⇒ 15 ∷
     (not (eqb (fieldOf mark) count) || not (laterFrames t (placeOf m f) count)) ⇒ 9 ∷
     []
 
-unfoldable pub release : Record → ℕ → Frame → ℕ → Tables → Outcome
-release m i f count t = checked m t (releaseChecks m i f count t) (outcome m (done 0 0) (freeRun m t i f count))
+unfoldable pub release : Record → ℕ → Frame → ℕ → ℕ → Tables → Outcome
+release m i f count device t = checked m t (releaseChecks m i f count device t) (outcome m (done 0 0) (freeRun m t i f count))
 
--- ---- Device store, device read
+-- ---- Device store, device read: by physical frame, and the device
 
 abbrev pub outsideMemory : Memory → Frame → Bool
 outsideMemory memory f = ltb (f .0) (memory .base .0) || leb (memory .base .0 + memory .frames) (f .0)
 
-abbrev pub deviceChecks : Record → Frame → Tables → List Check
-deviceChecks m f t =
+abbrev pub deviceChecks : Record → Frame → ℕ → Tables → List Check
+deviceChecks m f device t =
     shapeWrong m t ⇒ 1 ∷
-    outsideMemory (m .memory) f ⇒ 2 ∷
+    (outsideMemory (m .memory) f || badDevice device) ⇒ 2 ∷
     not (isGranted (markAt t (placeOf m f))) ⇒ 3 ∷
+    notOwner m t f device ⇒ 15 ∷
     []
 
-unfoldable pub deviceStore : Record → Frame → ℕ → Tables → Outcome
-deviceStore m f word t =
+unfoldable pub deviceStore : Record → Frame → ℕ → ℕ → Tables → Outcome
+deviceStore m f word device t =
     let p = placeOf m f in
-    checked m t (deviceChecks m f t) (outcome m (done 0 0) (setPage t p (markAt t p) word))
+    checked m t (deviceChecks m f device t) (outcome m (done 0 0) (setPage t p (markAt t p) word))
 
-unfoldable pub deviceRead : Record → Frame → Tables → Outcome
-deviceRead m f t = checked m t (deviceChecks m f t) (outcome m (done (wordAt t (placeOf m f)) 0) t)
+unfoldable pub deviceRead : Record → Frame → ℕ → Tables → Outcome
+deviceRead m f device t = checked m t (deviceChecks m f device t) (outcome m (done (wordAt t (placeOf m f)) 0) t)

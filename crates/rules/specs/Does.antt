@@ -25,14 +25,14 @@ abbrev pub given : Memory → Slice → Record
 given memory areas = recordWith memory (now (areas .entry))
 
 -- a function that hands back an answer alone does what a call does: the record stays
-abbrev pub Answers : (Record → Tables → Outcome) → Memory → Slice → Answer → Slice → Slice → Slice → Type 0
-Answers call memory areas r marks words bitmap =
-    outcome (given memory areas) r (leaving marks words bitmap) ≡ call (given memory areas) (entering marks words bitmap)
+abbrev pub Answers : (Record → Tables → Outcome) → Memory → Slice → Answer → Slice → Slice → Slice → Slice → Type 0
+Answers call memory areas r marks words bitmap owners =
+    outcome (given memory areas) r (leaving marks words bitmap owners) ≡ call (given memory areas) (entering marks words bitmap owners)
 
 -- a function that hands back a memory and an answer does what a call does: it leaves the areas' numbers of the record where they were lent
-abbrev pub Returns : (Record → Tables → Outcome) → Memory → Slice → Memory → Answer → Slice → Slice → Slice → Type 0
-Returns call memory areas after r marks words bitmap =
-    outcome (recordWith after (now (areas .exit))) r (leaving marks words bitmap) ≡ call (given memory areas) (entering marks words bitmap)
+abbrev pub Returns : (Record → Tables → Outcome) → Memory → Slice → Memory → Answer → Slice → Slice → Slice → Slice → Type 0
+Returns call memory areas after r marks words bitmap owners =
+    outcome (recordWith after (now (areas .exit))) r (leaving marks words bitmap owners) ≡ call (given memory areas) (entering marks words bitmap owners)
 
 -- the numbers lent are those of all areas
 abbrev pub hasAllAreas : Record → Bool

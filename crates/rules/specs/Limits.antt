@@ -34,6 +34,13 @@ leastName = 1
 abbrev pub mostName : ℕ
 mostName = 536870911
 
+-- device numbers; 0 is none's
+abbrev pub leastDevice : ℕ
+leastDevice = 1
+
+abbrev pub mostDevice : ℕ
+mostDevice = 65535
+
 -- grant alignment orders are 0 to this
 abbrev pub mostAlignOrder : ℕ
 mostAlignOrder = 16

@@ -17,9 +17,9 @@ unfoldable pub memoryRight : ℕ → ℕ → ℕ → Bool
 memoryRight base frames blockOrder =
     leb leastBase base && leb leastFrames frames && leb frames mostFrames && leb (base + frames) mostEnd && leb blockOrder mostBlockOrder
 
--- marks and words have an entry for each frame
+-- marks, words and owners have an entry for each frame
 unfoldable pub lengthsRight : ℕ → Tables → Bool
-lengthsRight frames t = eqb (length (t .marks)) frames && eqb (length (t .words)) frames
+lengthsRight frames t = eqb (length (t .marks)) frames && eqb (length (t .words)) frames && eqb (length (t .owners)) frames
 
 -- an area has a frame, at most a block for each bit, begins and ends on a block, and lies in memory
 unfoldable pub areaRight : Memory → Area → Bool

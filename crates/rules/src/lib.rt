@@ -43,6 +43,10 @@ impl Record {
 
     pub const MOST_NAME: u64 = 536870911;
 
+    pub const LEAST_DEVICE: u64 = 1;
+
+    pub const MOST_DEVICE: u64 = 65535;
+
     pub const MOST_ALIGN_ORDER: u64 = 16;
 
     // Numbers of a text keep to it too.
@@ -109,18 +113,22 @@ pub enum Call {
         area: u64,
         count: u64,
         align: u64,
+        device: u64,
     },
     Release {
         area: u64,
         frame: Frame,
         count: u64,
+        device: u64,
     },
     DeviceStore {
         frame: Frame,
         word: u64,
+        device: u64,
     },
     DeviceRead {
         frame: Frame,
+        device: u64,
     },
     Declare {
         request: Request,

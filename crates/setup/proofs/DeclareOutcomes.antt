@@ -86,5 +86,5 @@ module _ (m : Record) (r : Request) (t : Tables) where
             {a : Area} {next : Record} {answer : Answer} {bitmap : List ℕ} →
             p ≡ Made a →
             bitmap ≡ fill (t .bitmap) (wordsNeeded m) (wordCount a) 0 →
-            next ≡ withArea m a → answer ≡ done (a .base .0) (a .count) → outcome next answer (tables (t .marks) (t .words) bitmap) ≡ declare m r t
+            next ≡ withArea m a → answer ≡ done (a .base .0) (a .count) → outcome next answer (tables (t .marks) (t .words) bitmap (t .owners)) ≡ declare m r t
         declare-made h b w k = rw (b, w, k) (sym (concludes h))

@@ -102,7 +102,7 @@ grows : (frames room : ℕ) (m : Record) (a : Area) (o : Outcome) → o ≡ decl
     (o .left ≡ clearTables frames room) × Grown m o
 grows frames room m a o e (inl h) = absurd (let z : o .answer .refusal ≡ 0 = ap (λ (x : Outcome). x .answer .refusal) e in omega arith)
 grows frames room m a o e (inr g) =
-    (ap (λ (x : Outcome). x .left) e ∙ ap (λ (l : List ℕ). tables (replicate frames 0) (replicate frames 0) l) (clear-fill room _ _), g)
+    (ap (λ (x : Outcome). x .left) e ∙ ap (λ (l : List ℕ). tables (replicate frames 0) (replicate frames 0) l (replicate frames 0)) (clear-fill room _ _), g)
 
 -- what holds at the head of a loop that has planned the regions before i, from the record `first` on, and has come to m
 pub record Planning (frames room : ℕ) (rs : List Region) (first : Record) (i : ℕ) (m : Record) : Type 0 where
@@ -113,7 +113,7 @@ pub record Planning (frames room : ℕ) (rs : List Region) (first : Record) (i :
 
 lengths-clear : (frames room : ℕ) → lengthsRight frames (clearTables frames room) ≡ true
 unfolding lengthsRight
-lengths-clear frames room = let e = eq-eqb (length {A = ℕ} (replicate frames 0)) frames (length-replicate frames 0) in and-both _ _ e e
+lengths-clear frames room = let e = eq-eqb (length {A = ℕ} (replicate frames 0)) frames (length-replicate frames 0) in and-both _ _ (and-both _ _ e e) e
 
 clear-zero : (frames room : ℕ) → zeroTables (clearTables frames room) ≡ clearTables frames room
 clear-zero frames room = rw (length-replicate {A = ℕ} frames 0, length-replicate {A = ℕ} room 0)
@@ -275,7 +275,7 @@ module _ (m : Record) (base frames order : ℕ) (text : List ℕ) (t : Tables) w
   asks e = rw e boots
 
   -- from what the call's test of its numbers and lengths gave
-  module _ {right : Bool} (is : right ≡ (hasAllAreas m && (memoryRight base frames order && (eqb (length (t .marks)) frames && eqb (length (t .words)) frames)))) where
+  module _ {right : Bool} (is : right ≡ (hasAllAreas m && (memoryRight base frames order && (eqb (length (t .marks)) frames && eqb (length (t .words)) frames && eqb (length (t .owners)) frames)))) where
     tested : right ≡ (hasAllAreas m && bootable)
     unfolding lengthsRight
     tested = is
@@ -302,7 +302,7 @@ module _ (m : Record) (base frames order : ℕ) (text : List ℕ) (t : Tables) w
       pub boot-memory : memoryRight base frames order ≡ true
       boot-memory = and-left (memoryRight base frames order) (lengthsRight frames t) bootable-is
 
-      lengths : (length (t .marks) ≡ frames) × (length (t .words) ≡ frames)
+      lengths : (length (t .marks) ≡ frames) × (length (t .words) ≡ frames) × (length (t .owners) ≡ frames)
       lengths = lengths-facts (bareRecord base frames order) t (and-right (memoryRight base frames order) (lengthsRight frames t) bootable-is)
 
       -- and from what was planned
@@ -317,6 +317,7 @@ module _ (m : Record) (base frames order : ℕ) (text : List ℕ) (t : Tables) w
               marks = length-replicate frames 0 ∙ sym (lengths .0);
               words = length-replicate frames 0 ∙ sym (lengths .1);
               bitmap = length-replicate (length (t .bitmap)) 0;
+              owners = length-replicate frames 0 ∙ sym (lengths .2);
             })
             base frames order text
 
@@ -327,11 +328,11 @@ module _ (m : Record) (base frames order : ℕ) (text : List ℕ) (t : Tables) w
         boot-refused h = leaves-refused m t new a (bootRecord base frames order text t) comes h ∙ sym does-boot
 
         pub boot-done :
-            {m₁ w₁ b₁ : List ℕ} →
+            {m₁ w₁ b₁ o₁ : List ℕ} →
             a .refusal ≡ 0 →
             m₁ ≡ fill (t .marks) 0 frames 0 →
             w₁ ≡ fill (t .words) 0 frames 0 →
-            b₁ ≡ fill (t .bitmap) 0 (length (t .bitmap)) 0 → outcome new a (tables m₁ w₁ b₁) ≡ does
-        boot-done h em ew eb =
-            rw (em ∙ fill-all (t .marks) frames 0 (lengths .0), ew ∙ fill-all (t .words) frames 0 (lengths .1), eb ∙ fill-all (t .bitmap) (length (t .bitmap)) 0 refl)
+            b₁ ≡ fill (t .bitmap) 0 (length (t .bitmap)) 0 → o₁ ≡ fill (t .owners) 0 frames 0 → outcome new a (tables m₁ w₁ b₁ o₁) ≡ does
+        boot-done h em ew eb eo =
+            rw (em ∙ fill-all (t .marks) frames 0 (lengths .0), ew ∙ fill-all (t .words) frames 0 (lengths .1), eb ∙ fill-all (t .bitmap) (length (t .bitmap)) 0 refl, eo ∙ fill-all (t .owners) frames 0 (lengths .2))
             (leaves-record m t new a (bootRecord base frames order text t) (boot-fine base frames order text t) comes h ∙ sym does-boot)

@@ -20,8 +20,8 @@ use answer::refusal;
 use frames::Area;
 use frames::Frame;
 use frames::Place;
-use frames::fill_marks;
 use frames::fill_numbers;
+use frames::fill_places;
 use frames::fill_words;
 use frames::first_word;
 use place::Plan;
@@ -69,9 +69,10 @@ pub fn declare(
     marks: &[u32],
     words: &[u64],
     bitmap: &mut [u64],
+    owners: &[u32],
     request: Request,
 ) -> Laid
-    ensures { λ r. ⌜ Returns (withAllAreas (λ m. declare m request)) memory areas (r .memory) (r .answer) marks words bitmap ⌝ }
+    ensures { λ r. ⌜ Returns (withAllAreas (λ m. declare m request)) memory areas (r .memory) (r .answer) marks words bitmap owners ⌝ }
 {
     if areas.len() != Record::AREA_NUMBERS {
         return Laid {
@@ -79,7 +80,7 @@ pub fn declare(
             answer: Answer::refused(refusal::WRONG_SHAPE),
         };
     }
-    if !shape_right(memory, areas, marks, words, bitmap) {
+    if !shape_right(memory, areas, marks, words, bitmap, owners) {
         return Laid {
             memory,
             answer: Answer::refused(refusal::WRONG_SHAPE),
@@ -108,12 +109,13 @@ pub fn boot(
     marks: &mut [u32],
     words: &mut [u64],
     bitmap: &mut [u64],
+    owners: &mut [u32],
     base: Frame,
     frames: u64,
     block_order: u64,
     text: &[u8],
 ) -> Laid
-    ensures { λ r. ⌜ Returns (withAllAreas (λ m t. boot m (base .0) frames «block_order» (now (text .entry)) t)) memory areas (r .memory) (r .answer) marks words bitmap ⌝ }
+    ensures { λ r. ⌜ Returns (withAllAreas (λ m t. boot m (base .0) frames «block_order» (now (text .entry)) t)) memory areas (r .memory) (r .answer) marks words bitmap owners ⌝ }
 {
     let bare = Memory {
         base,
@@ -121,7 +123,7 @@ pub fn boot(
         block_order,
         declared: 0,
     };
-    if !is_bootable(bare, areas.len(), marks.len(), words.len()) {
+    if !is_bootable(bare, areas.len(), marks.len(), words.len(), owners.len()) {
         return Laid {
             memory,
             answer: Answer::refused_at(refusal::WRONG_SHAPE, 0),
@@ -135,9 +137,10 @@ pub fn boot(
         return Laid { memory, answer };
     }
     let room = bitmap.len() as u64;
-    fill_marks(marks, Place(0), frames, 0);
+    fill_places(marks, Place(0), frames, 0);
     fill_words(words, Place(0), frames, 0);
     fill_numbers(bitmap, 0, room, 0);
+    fill_places(owners, Place(0), frames, 0);
     copy(areas, &planned);
     laid
 }

@@ -39,9 +39,15 @@ fn request_of(region: Region) -> Request
     }
 }
 
-// The memory keeps to its limits, the numbers of all areas are lent, and marks and words have an entry for each frame.
-pub(crate) fn is_bootable(memory: Memory, areas: usize, marks: usize, words: usize) -> bool
-    ensures { λ r. ⌜ r ≡ (eqb areas mostAreaNumbers && (memoryRight (memory .base .0) (memory .frames) (memory .«block_order») && (eqb marks (memory .frames) && eqb words (memory .frames)))) ⌝ }
+// The memory keeps to its limits, the numbers of all areas are lent, and marks, words and owners have an entry for each frame.
+pub(crate) fn is_bootable(
+    memory: Memory,
+    areas: usize,
+    marks: usize,
+    words: usize,
+    owners: usize,
+) -> bool
+    ensures { λ r. ⌜ r ≡ (eqb areas mostAreaNumbers && (memoryRight (memory .base .0) (memory .frames) (memory .«block_order») && (eqb marks (memory .frames) && eqb words (memory .frames) && eqb owners (memory .frames)))) ⌝ }
 {
     let frames = memory.frames;
     if areas != Record::AREA_NUMBERS {
@@ -53,7 +59,10 @@ pub(crate) fn is_bootable(memory: Memory, areas: usize, marks: usize, words: usi
     if marks as u64 != frames {
         return false;
     }
-    words as u64 == frames
+    if words as u64 != frames {
+        return false;
+    }
+    owners as u64 == frames
 }
 
 // The regions planned in turn, each with the areas before it, from a record that has none on. A refusal gives the region's index. No mark is

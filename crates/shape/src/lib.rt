@@ -243,8 +243,9 @@ pub fn shape_right(
     marks: &[u32],
     words: &[u64],
     bitmap: &[u64],
+    owners: &[u32],
 ) -> bool
-    ensures { λ r. ⌜ r ≡ shapeRight (given memory areas) (entering marks words bitmap) ⌝ }
+    ensures { λ r. ⌜ r ≡ shapeRight (given memory areas) (entering marks words bitmap owners) ⌝ }
 {
     let frames = memory.frames;
     let declared = memory.declared;
@@ -258,6 +259,9 @@ pub fn shape_right(
         return false;
     }
     if words.len() as u64 != frames {
+        return false;
+    }
+    if owners.len() as u64 != frames {
         return false;
     }
     if !areas_fit(memory, areas) {

@@ -50,7 +50,7 @@ stepsRight (s ∷ ss) marks m t =
 
 -- an example starts with a fresh record, 32 frames and as many bitmap words as a replay lends, 96
 unfoldable pub isRight : Example → Bool
-isRight e = stepsRight (e .steps) (e .marks) freshRecord (tables (replicate 32 0) (replicate 32 0) (replicate 96 0))
+isRight e = stepsRight (e .steps) (e .marks) freshRecord (tables (replicate 32 0) (replicate 32 0) (replicate 96 0) (replicate 32 0))
 
 unfoldable pub allRight : List Example → Bool
 allRight [] = true

@@ -1,4 +1,5 @@
--- Document 01, "Station examples": those that are marked with a star, and E10, whose last answer document 02's request (ii) changed.
+-- Document 01, "Station examples": those that are marked with a star, and E10, whose last answer document 02's request (ii) changed. All
+-- name device 1 (document 02, request (vii)).
 use Prim.Native.Nat.{ℕ, suc}
 use mathlib.Core.Bool.{true, false}
 use mathlib.Core.List.{List, [], _∷_, _++_}
@@ -28,14 +29,14 @@ puts name [] = []
 puts name (f ∷ fs) = Call.PutMovable name answers done f 0 ∷ puts (suc name) fs
 
 abbrev E1 : List Step
-E1 = machineA ++ (Call.Grant 0 3 0 answers done 8 0 ∷ [])
+E1 = machineA ++ (Call.Grant 0 3 0 1 answers done 8 0 ∷ [])
 
 -- 18 movable puts, the 17th at 8 and the 18th at 9
 abbrev E6 : List Step
 E6 =
     machineA ++
     puts 1 (4 ∷ 5 ∷ 6 ∷ 7 ∷ 24 ∷ 25 ∷ 26 ∷ 27 ∷ 28 ∷ 29 ∷ 30 ∷ 31 ∷ 32 ∷ 33 ∷ 34 ∷ 35 ∷ 8 ∷ 9 ∷ []) ++
-    (Call.Grant 0 1 0 answers refused 8 ∷ [])
+    (Call.Grant 0 1 0 1 answers refused 8 ∷ [])
 
 -- a declare of size 1 with a limit, all else 0
 abbrev sizeOne : ℕ → Request
@@ -49,21 +50,21 @@ examples =
     -- E1
     example E1 (8 holds 28 ∷ 9 holds 5 ∷ 10 holds 5 ∷ 11 holds 0 ∷ []) ∷
     -- E2
-    example (E1 ++ (Call.Grant 0 2 2 answers done 12 0 ∷ [])) [] ∷
+    example (E1 ++ (Call.Grant 0 2 2 1 answers done 12 0 ∷ [])) [] ∷
     -- E3, E4
-    example (machineA ++ (Call.Grant 0 8 4 answers done 16 0 ∷ [])) [] ∷
-    example (machineA ++ (Call.Grant 0 9 4 answers refused 7 ∷ [])) [] ∷
+    example (machineA ++ (Call.Grant 0 8 4 1 answers done 16 0 ∷ [])) [] ∷
+    example (machineA ++ (Call.Grant 0 9 4 1 answers refused 7 ∷ [])) [] ∷
     -- E5
-    example (machineA ++ (Call.Grant 0 16 0 answers done 8 0 ∷ [])) [] ∷
-    example (machineA ++ (Call.Grant 0 17 0 answers refused 7 ∷ [])) [] ∷
+    example (machineA ++ (Call.Grant 0 16 0 1 answers done 8 0 ∷ [])) [] ∷
+    example (machineA ++ (Call.Grant 0 17 0 1 answers refused 7 ∷ [])) [] ∷
     -- E6: refused although frame 10 is free
     example E6 (10 holds 0 ∷ []) ∷
     -- E7: the page at 8 is name 17 and the one at 4 is name 1; name 18 moves from 9 into 4
-    example (E6 ++ (Call.Pin 17 answers done 0 0 ∷ Call.Drop 1 answers done 0 0 ∷ Call.Grant 0 1 0 answers done 9 1 ∷ [])) (4 holds 145 ∷ 8 holds 138 ∷ 9 holds 12 ∷ []) ∷
+    example (E6 ++ (Call.Pin 17 answers done 0 0 ∷ Call.Drop 1 answers done 0 0 ∷ Call.Grant 0 1 0 1 answers done 9 1 ∷ [])) (4 holds 145 ∷ 8 holds 138 ∷ 9 holds 12 ∷ []) ∷
     -- E8
-    example (E1 ++ (Call.Release 0 (frame 8) 2 answers refused 9 ∷ Call.Release 0 (frame 9) 1 answers refused 3 ∷ [])) [] ∷
+    example (E1 ++ (Call.Release 0 (frame 8) 2 1 answers refused 9 ∷ Call.Release 0 (frame 9) 1 1 answers refused 3 ∷ [])) [] ∷
     -- E9
-    example (machineWith 2 ++ (Call.Grant 0 5 0 answers done 8 0 ∷ Call.Grant 0 1 0 answers done 16 0 ∷ [])) (8 holds 44 ∷ 9 holds 5 ∷ 10 holds 5 ∷ 11 holds 5 ∷ 12 holds 5 ∷ 13 holds 0 ∷ 16 holds 12 ∷ []) ∷
+    example (machineWith 2 ++ (Call.Grant 0 5 0 1 answers done 8 0 ∷ Call.Grant 0 1 0 1 answers done 16 0 ∷ [])) (8 holds 44 ∷ 9 holds 5 ∷ 10 holds 5 ∷ 11 holds 5 ∷ 12 holds 5 ∷ 13 holds 0 ∷ 16 holds 12 ∷ []) ∷
     -- E10
     example (noAreas ++ (Call.Declare (sizeOne 0) answers done 32 4 ∷ [])) [] ∷
     example (noAreas ++ (Call.Declare (sizeOne 100000) answers done 20 4 ∷ [])) [] ∷

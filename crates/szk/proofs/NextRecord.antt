@@ -85,10 +85,10 @@ perform-whole m t (Call.Pin name) text e = checked-whole m t _ _ refl e e
 perform-whole m t (Call.Unpin name) text e = checked-whole m t _ _ refl e e
 perform-whole m t (Call.Store name word) text e = checked-whole m t _ _ refl e e
 perform-whole m t (Call.Read name) text e = checked-whole m t _ _ refl e e
-perform-whole m t (Call.Grant area count align) text e = checked-whole m t _ _ refl e e
-perform-whole m t (Call.Release area frame count) text e = checked-whole m t _ _ refl e e
-perform-whole m t (Call.DeviceStore frame word) text e = checked-whole m t _ _ refl e e
-perform-whole m t (Call.DeviceRead frame) text e = checked-whole m t _ _ refl e e
+perform-whole m t (Call.Grant area count align device) text e = checked-whole m t _ _ refl e e
+perform-whole m t (Call.Release area frame count device) text e = checked-whole m t _ _ refl e e
+perform-whole m t (Call.DeviceStore frame word device) text e = checked-whole m t _ _ refl e e
+perform-whole m t (Call.DeviceRead frame device) text e = checked-whole m t _ _ refl e e
 perform-whole m t (Call.Declare request) text e = declare-whole m request t e
 perform-whole m t (Call.Boot base frames order) text e =
     booted-whole m t (Boot.bootRecord (base .0) frames order text t) e (boot-record-whole (base .0) frames order text t)

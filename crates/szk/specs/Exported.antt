@@ -1,4 +1,4 @@
--- What an exported call makes of the five lists that it is lent.
+-- What an exported call makes of the six lists that it is lent.
 use Prim.Native.Nat.{ℕ}
 use mathlib.Core.Path.{_≡_}
 use mathlib.Core.Bool.{Bool}
@@ -48,8 +48,8 @@ exported call text l =
     else if isShort (l .numbers) recordLength then answered l (refused 1)
     else givenBack (perform call text (recordFrom (l .numbers)) (l .tables)) l
 
--- a function leaves what an exported call makes of the five slices lent
-abbrev pub Exports : Call → List ℕ → Slice → Slice → Slice → Slice → Slice → Type 0
-Exports call text numbers marks words bitmap answer =
-    handed (now (numbers .exit)) (leaving marks words bitmap) (now (answer .exit)) ≡
-    exported call text (handed (now (numbers .entry)) (entering marks words bitmap) (now (answer .entry)))
+-- a function leaves what an exported call makes of the six slices lent
+abbrev pub Exports : Call → List ℕ → Slice → Slice → Slice → Slice → Slice → Slice → Type 0
+Exports call text numbers marks words bitmap owners answer =
+    handed (now (numbers .exit)) (leaving marks words bitmap owners) (now (answer .exit)) ≡
+    exported call text (handed (now (numbers .entry)) (entering marks words bitmap owners) (now (answer .entry)))

@@ -47,11 +47,12 @@ pub fn call(
     marks: &mut [u32],
     words: &mut [u64],
     bitmap: &mut [u64],
+    owners: &mut [u32],
     answer: &mut [u64],
     call: Call,
     text: &[u8],
 )
-    ensures { λ _. ⌜ Exports call (now (text .entry)) numbers marks words bitmap answer ⌝ }
+    ensures { λ _. ⌜ Exports call (now (text .entry)) numbers marks words bitmap owners answer ⌝ }
 {
     if refuse_short(numbers, answer) {
         return;
@@ -63,6 +64,7 @@ pub fn call(
         marks,
         words,
         bitmap,
+        owners,
         call,
         text,
     );

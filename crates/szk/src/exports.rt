@@ -18,13 +18,14 @@ pub extern "C" fn szk_put_movable(
     marks: &mut [u32],
     words: &mut [u64],
     bitmap: &mut [u64],
+    owners: &mut [u32],
     answer: &mut [u64],
     name: u64,
 )
-    ensures { λ _. ⌜ Exports (Call.PutMovable name) [] numbers marks words bitmap answer ⌝ }
+    ensures { λ _. ⌜ Exports (Call.PutMovable name) [] numbers marks words bitmap owners answer ⌝ }
 {
     let call = Call::PutMovable { name };
-    exchange::call(numbers, marks, words, bitmap, answer, call, b"");
+    exchange::call(numbers, marks, words, bitmap, owners, answer, call, b"");
 }
 
 // A fixed page is put, which no area takes.
@@ -34,13 +35,14 @@ pub extern "C" fn szk_put_fixed(
     marks: &mut [u32],
     words: &mut [u64],
     bitmap: &mut [u64],
+    owners: &mut [u32],
     answer: &mut [u64],
     name: u64,
 )
-    ensures { λ _. ⌜ Exports (Call.PutFixed name) [] numbers marks words bitmap answer ⌝ }
+    ensures { λ _. ⌜ Exports (Call.PutFixed name) [] numbers marks words bitmap owners answer ⌝ }
 {
     let call = Call::PutFixed { name };
-    exchange::call(numbers, marks, words, bitmap, answer, call, b"");
+    exchange::call(numbers, marks, words, bitmap, owners, answer, call, b"");
 }
 
 // A page is gone from its frame, unless it is pinned.
@@ -50,13 +52,14 @@ pub extern "C" fn szk_drop(
     marks: &mut [u32],
     words: &mut [u64],
     bitmap: &mut [u64],
+    owners: &mut [u32],
     answer: &mut [u64],
     name: u64,
 )
-    ensures { λ _. ⌜ Exports (Call.Drop name) [] numbers marks words bitmap answer ⌝ }
+    ensures { λ _. ⌜ Exports (Call.Drop name) [] numbers marks words bitmap owners answer ⌝ }
 {
     let call = Call::Drop { name };
-    exchange::call(numbers, marks, words, bitmap, answer, call, b"");
+    exchange::call(numbers, marks, words, bitmap, owners, answer, call, b"");
 }
 
 // A movable page is pinned.
@@ -66,13 +69,14 @@ pub extern "C" fn szk_pin(
     marks: &mut [u32],
     words: &mut [u64],
     bitmap: &mut [u64],
+    owners: &mut [u32],
     answer: &mut [u64],
     name: u64,
 )
-    ensures { λ _. ⌜ Exports (Call.Pin name) [] numbers marks words bitmap answer ⌝ }
+    ensures { λ _. ⌜ Exports (Call.Pin name) [] numbers marks words bitmap owners answer ⌝ }
 {
     let call = Call::Pin { name };
-    exchange::call(numbers, marks, words, bitmap, answer, call, b"");
+    exchange::call(numbers, marks, words, bitmap, owners, answer, call, b"");
 }
 
 // A pinned page is movable again.
@@ -82,13 +86,14 @@ pub extern "C" fn szk_unpin(
     marks: &mut [u32],
     words: &mut [u64],
     bitmap: &mut [u64],
+    owners: &mut [u32],
     answer: &mut [u64],
     name: u64,
 )
-    ensures { λ _. ⌜ Exports (Call.Unpin name) [] numbers marks words bitmap answer ⌝ }
+    ensures { λ _. ⌜ Exports (Call.Unpin name) [] numbers marks words bitmap owners answer ⌝ }
 {
     let call = Call::Unpin { name };
-    exchange::call(numbers, marks, words, bitmap, answer, call, b"");
+    exchange::call(numbers, marks, words, bitmap, owners, answer, call, b"");
 }
 
 // The word becomes the page's, unless it is pinned.
@@ -98,14 +103,15 @@ pub extern "C" fn szk_store(
     marks: &mut [u32],
     words: &mut [u64],
     bitmap: &mut [u64],
+    owners: &mut [u32],
     answer: &mut [u64],
     name: u64,
     word: u64,
 )
-    ensures { λ _. ⌜ Exports (Call.Store name word) [] numbers marks words bitmap answer ⌝ }
+    ensures { λ _. ⌜ Exports (Call.Store name word) [] numbers marks words bitmap owners answer ⌝ }
 {
     let call = Call::Store { name, word };
-    exchange::call(numbers, marks, words, bitmap, answer, call, b"");
+    exchange::call(numbers, marks, words, bitmap, owners, answer, call, b"");
 }
 
 // Answers the page's frame and its word.
@@ -115,85 +121,108 @@ pub extern "C" fn szk_read(
     marks: &mut [u32],
     words: &mut [u64],
     bitmap: &mut [u64],
+    owners: &mut [u32],
     answer: &mut [u64],
     name: u64,
 )
-    ensures { λ _. ⌜ Exports (Call.Read name) [] numbers marks words bitmap answer ⌝ }
+    ensures { λ _. ⌜ Exports (Call.Read name) [] numbers marks words bitmap owners answer ⌝ }
 {
     let call = Call::Read { name };
-    exchange::call(numbers, marks, words, bitmap, answer, call, b"");
+    exchange::call(numbers, marks, words, bitmap, owners, answer, call, b"");
 }
 
-// A run of frames of an area is granted. Answers its first frame, and how many pages moved out of it.
+// A run of frames of an area is granted to a device. Answers its first frame, and how many pages moved out of it.
 #[no_mangle]
 pub extern "C" fn szk_grant(
     numbers: &mut [u64],
     marks: &mut [u32],
     words: &mut [u64],
     bitmap: &mut [u64],
+    owners: &mut [u32],
     answer: &mut [u64],
     area: u64,
     count: u64,
     align: u64,
+    device: u64,
 )
-    ensures { λ _. ⌜ Exports (Call.Grant area count align) [] numbers marks words bitmap answer ⌝ }
+    ensures { λ _. ⌜ Exports (Call.Grant area count align device) [] numbers marks words bitmap owners answer ⌝ }
 {
-    let call = Call::Grant { area, count, align };
-    exchange::call(numbers, marks, words, bitmap, answer, call, b"");
+    let call = Call::Grant {
+        area,
+        count,
+        align,
+        device,
+    };
+    exchange::call(numbers, marks, words, bitmap, owners, answer, call, b"");
 }
 
-// A grant ends, and its frames are free.
+// A grant ends, by its owner, and its frames are free.
 #[no_mangle]
 pub extern "C" fn szk_release(
     numbers: &mut [u64],
     marks: &mut [u32],
     words: &mut [u64],
     bitmap: &mut [u64],
+    owners: &mut [u32],
     answer: &mut [u64],
     area: u64,
     frame: u64,
     count: u64,
+    device: u64,
 )
-    ensures { λ _. ⌜ Exports (Call.Release area (frameOf frame) count) [] numbers marks words bitmap answer ⌝ }
+    ensures { λ _. ⌜ Exports (Call.Release area (frameOf frame) count device) [] numbers marks words bitmap owners answer ⌝ }
 {
     let frame = Frame(frame);
-    let call = Call::Release { area, frame, count };
-    exchange::call(numbers, marks, words, bitmap, answer, call, b"");
+    let call = Call::Release {
+        area,
+        frame,
+        count,
+        device,
+    };
+    exchange::call(numbers, marks, words, bitmap, owners, answer, call, b"");
 }
 
-// A device stores a word in a granted frame.
+// A device stores a word in a frame that it owns.
 #[no_mangle]
 pub extern "C" fn szk_device_store(
     numbers: &mut [u64],
     marks: &mut [u32],
     words: &mut [u64],
     bitmap: &mut [u64],
+    owners: &mut [u32],
     answer: &mut [u64],
     frame: u64,
     word: u64,
+    device: u64,
 )
-    ensures { λ _. ⌜ Exports (Call.DeviceStore (frameOf frame) word) [] numbers marks words bitmap answer ⌝ }
+    ensures { λ _. ⌜ Exports (Call.DeviceStore (frameOf frame) word device) [] numbers marks words bitmap owners answer ⌝ }
 {
     let frame = Frame(frame);
-    let call = Call::DeviceStore { frame, word };
-    exchange::call(numbers, marks, words, bitmap, answer, call, b"");
+    let call = Call::DeviceStore {
+        frame,
+        word,
+        device,
+    };
+    exchange::call(numbers, marks, words, bitmap, owners, answer, call, b"");
 }
 
-// A device reads a granted frame. Answers its word.
+// A device reads a frame that it owns. Answers its word.
 #[no_mangle]
 pub extern "C" fn szk_device_read(
     numbers: &mut [u64],
     marks: &mut [u32],
     words: &mut [u64],
     bitmap: &mut [u64],
+    owners: &mut [u32],
     answer: &mut [u64],
     frame: u64,
+    device: u64,
 )
-    ensures { λ _. ⌜ Exports (Call.DeviceRead (frameOf frame)) [] numbers marks words bitmap answer ⌝ }
+    ensures { λ _. ⌜ Exports (Call.DeviceRead (frameOf frame) device) [] numbers marks words bitmap owners answer ⌝ }
 {
     let frame = Frame(frame);
-    let call = Call::DeviceRead { frame };
-    exchange::call(numbers, marks, words, bitmap, answer, call, b"");
+    let call = Call::DeviceRead { frame, device };
+    exchange::call(numbers, marks, words, bitmap, owners, answer, call, b"");
 }
 
 // An area is declared, by amounts in bytes. A `fixed` of 0 is no, any other number is yes. Answers its first frame and its count.
@@ -203,6 +232,7 @@ pub extern "C" fn szk_declare(
     marks: &mut [u32],
     words: &mut [u64],
     bitmap: &mut [u64],
+    owners: &mut [u32],
     answer: &mut [u64],
     base: u64,
     size: u64,
@@ -211,7 +241,7 @@ pub extern "C" fn szk_declare(
     order_per_bit: u64,
     fixed: u64,
 )
-    ensures { λ _. ⌜ Exports (Call.Declare (record { base = base; size = size; limit = limit; alignment = alignment; «order_per_bit» = «order_per_bit»; fixed = not (eqb fixed 0) })) [] numbers marks words bitmap answer ⌝ }
+    ensures { λ _. ⌜ Exports (Call.Declare (record { base = base; size = size; limit = limit; alignment = alignment; «order_per_bit» = «order_per_bit»; fixed = not (eqb fixed 0) })) [] numbers marks words bitmap owners answer ⌝ }
 {
     let request = Request {
         base,
@@ -222,7 +252,7 @@ pub extern "C" fn szk_declare(
         fixed: fixed != 0,
     };
     let call = Call::Declare { request };
-    exchange::call(numbers, marks, words, bitmap, answer, call, b"");
+    exchange::call(numbers, marks, words, bitmap, owners, answer, call, b"");
 }
 
 // A machine starts, with the areas of a regions text. The record lent is ignored, but for its length.
@@ -232,13 +262,14 @@ pub extern "C" fn szk_boot(
     marks: &mut [u32],
     words: &mut [u64],
     bitmap: &mut [u64],
+    owners: &mut [u32],
     answer: &mut [u64],
     base: u64,
     frames: u64,
     block_order: u64,
     text: &[u8],
 )
-    ensures { λ _. ⌜ Exports (Call.Boot (frameOf base) frames «block_order») (now (text .entry)) numbers marks words bitmap answer ⌝ }
+    ensures { λ _. ⌜ Exports (Call.Boot (frameOf base) frames «block_order») (now (text .entry)) numbers marks words bitmap owners answer ⌝ }
 {
     let base = Frame(base);
     let call = Call::Boot {
@@ -246,5 +277,5 @@ pub extern "C" fn szk_boot(
         frames,
         block_order,
     };
-    exchange::call(numbers, marks, words, bitmap, answer, call, text);
+    exchange::call(numbers, marks, words, bitmap, owners, answer, call, text);
 }

@@ -14,8 +14,8 @@ fn line_for(text: &[u8]) -> String {
         }
         Err((number, place)) => format!("read {number} {place} 0"),
     };
-    let (mut marks, mut words, mut bitmap) = ([0; 32], [0; 32], [0; BITMAP_WORDS]);
-    let mut tables = Tables { marks: &mut marks, words: &mut words, bitmap: &mut bitmap };
+    let (mut marks, mut words, mut bitmap, mut owners) = ([0; 32], [0; 32], [0; BITMAP_WORDS], [0; 32]);
+    let mut tables = Tables { marks: &mut marks, words: &mut words, bitmap: &mut bitmap, owners: &mut owners };
     let mut machine = Machine::fresh();
     let answer = machine.boot(&mut tables, 4, 32, 2, text);
     line += &format!(" boot {} {} {}", answer.refusal, answer.first, answer.second);

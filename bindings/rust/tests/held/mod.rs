@@ -8,6 +8,7 @@ pub struct Held {
     pub marks: Vec<u32>,
     pub words: Vec<u64>,
     pub bitmap: Vec<u64>,
+    pub owners: Vec<u32>,
 }
 
 /// The numbers of a record, in the order of szk.h.
@@ -27,12 +28,13 @@ impl Held {
             marks: state.marks.clone(),
             words: state.words.clone(),
             bitmap: state.bitmap.clone(),
+            owners: state.owners.clone(),
         }
     }
 
     pub fn make(&mut self, call: &Call) -> Answer {
-        let mut t = Tables { marks: &mut self.marks, words: &mut self.words, bitmap: &mut self.bitmap };
-        let (m, t) = (&mut self.machine, &mut t);
+        let t = &mut Tables { marks: &mut self.marks, words: &mut self.words, bitmap: &mut self.bitmap, owners: &mut self.owners };
+        let m = &mut self.machine;
         match call {
             Call::Boot { base, frames, order, text } => m.boot(t, *base, *frames, *order, text),
             Call::PutMovable { name } => m.put_movable(t, *name),
@@ -42,21 +44,22 @@ impl Held {
             Call::Unpin { name } => m.unpin(t, *name),
             Call::Store { name, word } => m.store(t, *name, *word),
             Call::Read { name } => m.read(t, *name),
-            Call::Grant { area, count, align } => m.grant(t, *area, *count, *align),
-            Call::Release { area, frame, count } => m.release(t, *area, *frame, *count),
-            Call::DeviceStore { frame, word } => m.device_store(t, *frame, *word),
-            Call::DeviceRead { frame } => m.device_read(t, *frame),
+            Call::Grant { area, count, align, device } => m.grant(t, *area, *count, *align, *device),
+            Call::Release { area, frame, count, device } => m.release(t, *area, *frame, *count, *device),
+            Call::DeviceStore { frame, word, device } => m.device_store(t, *frame, *word, *device),
+            Call::DeviceRead { frame, device } => m.device_read(t, *frame, *device),
             Call::Declare(r) => m.declare(t, &request(r)),
         }
     }
 
-    /// The answer, the record and all three tables are the reference's.
+    /// The answer, the record and all four tables are the reference's.
     pub fn agrees(&self, answer: Answer, state: &State, expected: reference::Answer) -> bool {
         (answer.refusal, answer.first, answer.second) == (expected.refusal, expected.first, expected.second)
             && self.machine.numbers == numbers(&state.machine)
             && self.marks == state.marks
             && self.words == state.words
             && self.bitmap == state.bitmap
+            && self.owners == state.owners
     }
 }
 

@@ -17,11 +17,11 @@ answer-records-requires c κs = search needs
 
 put-last-requires : tie.Need-put-last-requires
 put-last-requires c κs =
-    let given = c .before .before .before .before .before .before .before .before .before .before .before .before .before .before .before .before .before .before .before .before .before .before .before .before .before .pre in
-    let headed = appended-within (c .before .before .before .before .before .before .before .before .before .before .before .before .before .before .before .before .before .before .put-heading .ensures) (omega arith) in
-    let one = c .before .before .before .before .before .before .before .before .before .before .before .before .before .before .before .before .before .before .put-heading .kept in
-    let went = ran _ _ (c .before .before .before .before .before .before .before .before .before .before .answer-records .ensures) (omega arith) (omega arith) in
-    let two = c .before .before .before .before .before .before .before .before .before .before .answer-records .kept in
+    let given = c .before .before .before .before .before .before .before .before .before .before .before .before .before .before .before .before .before .before .before .before .before .before .before .before .before .before .before .before .before .pre in
+    let headed = appended-within (c .before .before .before .before .before .before .before .before .before .before .before .before .before .before .before .before .before .before .before .before .before .put-heading .ensures) (omega arith) in
+    let one = c .before .before .before .before .before .before .before .before .before .before .before .before .before .before .before .before .before .before .before .before .before .put-heading .kept in
+    let went = ran _ _ (c .before .before .before .before .before .before .before .before .before .before .before .before .answer-records .ensures) (omega arith) (omega arith) in
+    let two = c .before .before .before .before .before .before .before .before .before .before .before .before .answer-records .kept in
     omega arith
 
 same-length : tie.Need-same-length
@@ -35,6 +35,9 @@ same-length-3 c = search needs
 
 same-length-4 : tie.Need-same-length-4
 same-length-4 c = search needs
+
+same-length-5 : tie.Need-same-length-5
+same-length-5 c = search needs
 
 returns : tie.Need-returns
 returns c = search needs
@@ -51,4 +54,5 @@ play-spec =
     same-length-2
     same-length-3
     same-length-4
+    same-length-5
     returns)

@@ -9,11 +9,11 @@ use Rattle.cases.proofs.play_from.Statement.{statement}
 use Rattle.cases.proofs.play_from.Tie as tie
 
 abbrev Inv-loop : tie.InvT-loop
-Inv-loop bytes out₀ from marks₀ words₀ bitmap₀ text₀ n₀ out marks words bitmap text n =
-    (text ≤ length out) × (length out ≡ length out₀) × (length marks ≡ heldFrames) × (length words ≡ heldFrames) × (length bitmap ≡ heldBitmapWords)
+Inv-loop bytes out₀ from marks₀ words₀ bitmap₀ owners₀ text₀ n₀ out marks words bitmap owners text n =
+    (text ≤ length out) × (length out ≡ length out₀) × (length marks ≡ heldFrames) × (length words ≡ heldFrames) × (length bitmap ≡ heldBitmapWords) × (length owners ≡ heldFrames)
 
 abbrev μ-loop : tie.MeasureT-loop
-μ-loop bytes out₀ from marks₀ words₀ bitmap₀ text₀ n₀ out marks words bitmap text n = length bytes - n
+μ-loop bytes out₀ from marks₀ words₀ bitmap₀ owners₀ text₀ n₀ out marks words bitmap owners text n = length bytes - n
 
 marks-requires : tie.Need-marks-requires Inv-loop μ-loop
 marks-requires c κs = search needs
@@ -23,6 +23,9 @@ words-requires c κs = search needs
 
 bitmap-requires : tie.Need-bitmap-requires Inv-loop μ-loop
 bitmap-requires c κs = search needs
+
+owners-requires : tie.Need-owners-requires Inv-loop μ-loop
+owners-requires c κs = search needs
 
 loop-holds : tie.Need-loop-holds Inv-loop μ-loop
 loop-holds c = search needs
@@ -45,6 +48,9 @@ slice-aggregate-play-2 c = search needs
 slice-aggregate-play-3 : tie.Need-slice-aggregate-play-3 Inv-loop μ-loop
 slice-aggregate-play-3 c = search needs
 
+slice-aggregate-play-4 : tie.Need-slice-aggregate-play-4 Inv-loop μ-loop
+slice-aggregate-play-4 c = search needs
+
 play-requires : tie.Need-play-requires Inv-loop μ-loop
 play-requires c κs = search needs
 
@@ -56,19 +62,22 @@ loop-less c = search needs
 
 loop-again : tie.Need-loop-again Inv-loop μ-loop
 loop-again c =
-    let i = c .before .before .before .before .before .before .before .before .before .before .before .before .loop .inv in
-    let k = c .before .before .before .before .before .play .kept in
-    let e = c .before .before .before .before .before .play .ensures in
-    (omega arith, omega arith, omega arith, omega arith, omega arith)
-
-slice-aggregate-play-4 : tie.Need-slice-aggregate-play-4 Inv-loop μ-loop
-slice-aggregate-play-4 c = search needs
+    let i = c .before .before .before .before .before .before .before .before .before .before .before .before .before .before .loop .inv in
+    let k = c .before .before .before .before .before .before .play .kept in
+    let e = c .before .before .before .before .before .before .play .ensures in
+    (omega arith, omega arith, omega arith, omega arith, omega arith, omega arith)
 
 slice-aggregate-play-5 : tie.Need-slice-aggregate-play-5 Inv-loop μ-loop
 slice-aggregate-play-5 c = search needs
 
 slice-aggregate-play-6 : tie.Need-slice-aggregate-play-6 Inv-loop μ-loop
 slice-aggregate-play-6 c = search needs
+
+slice-aggregate-play-7 : tie.Need-slice-aggregate-play-7 Inv-loop μ-loop
+slice-aggregate-play-7 c = search needs
+
+slice-aggregate-play-8 : tie.Need-slice-aggregate-play-8 Inv-loop μ-loop
+slice-aggregate-play-8 c = search needs
 
 play-requires-2 : tie.Need-play-requires-2 Inv-loop μ-loop
 play-requires-2 c κs = search needs
@@ -88,6 +97,7 @@ play-from-spec =
     marks-requires
     words-requires
     bitmap-requires
+    owners-requires
     loop-holds
     sub-play
     part-play-start
@@ -95,13 +105,15 @@ play-from-spec =
     slice-aggregate-play
     slice-aggregate-play-2
     slice-aggregate-play-3
+    slice-aggregate-play-4
     play-requires
     add-n
     loop-less
     loop-again
-    slice-aggregate-play-4
     slice-aggregate-play-5
     slice-aggregate-play-6
+    slice-aggregate-play-7
+    slice-aggregate-play-8
     play-requires-2
     same-length
     returns)

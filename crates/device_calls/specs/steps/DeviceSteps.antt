@@ -1,8 +1,9 @@
 -- What the code of the device calls works out in a step of its own, and what a step asks of its arguments.
 use Prim.Native.Nat.{ℕ, _+_, _-_, _*_, _%_, _^_, _≤_, _<_, max}
 use mathlib.Core.Path.{_≡_}
-use mathlib.Core.Bool.{Bool, true, false, _&&_}
+use mathlib.Core.Bool.{Bool, true, false, _&&_, _||_}
 use mathlib.Core.List.{List}
+use lib.Dec.{eqb}
 use Rattle.search.specs.Search.{every}
 use Rattle.bitmap.specs.Bits.{bitOf, isClear, isStart}
 use Rattle.frames.specs.declared.Area.{Area}
@@ -20,7 +21,7 @@ use Rattle.device_calls.specs.declared.runs.Tried.{Tried}
 use Rattle.rules.specs.Record.{areaAt}
 use Rattle.rules.specs.Limits.{mostFrames, mostEnd, mostBlockOrder, mostAlignOrder}
 use Rattle.rules.specs.Shape.{shapeRight}
-use Rattle.rules.specs.DeviceCalls.{bitmapOf}
+use Rattle.rules.specs.DeviceCalls.{bitmapOf, isUnknown, outsideArea}
 
 -- a bit's first frame is a multiple of 2^align
 abbrev pub isAligned : Area → ℕ → ℕ → Bool
@@ -108,6 +109,11 @@ pub record Tries (marks bitmap : List ℕ) (base : Frame) (w : Wanted) (j : ℕ)
 -- the page at place p stands at place q instead
 abbrev pub pageMoved : Tables → Place → Place → Tables
 pageMoved t p q = setPage (setPage t q (markAt t p) (wordAt t p)) p 0 0
+
+-- the `count` frames from f on are some, and lie in area i, which is declared
+pub record RangeFits (m : Record) (t : Tables) (i : ℕ) (f : Frame) (count : ℕ) : Type 0 where
+  pub shape : shapeRight m t ≡ true
+  pub range : (isUnknown (m .memory) i || eqb count 0 || outsideArea (areaAt m i) f count) ≡ false
 
 -- the run of `count` frames at bit j of area i lies in the area, which is declared
 pub record RunFits (m : Record) (t : Tables) (i count : ℕ) (j : Bit) : Type 0 where

@@ -40,7 +40,7 @@ mul-marks : tie.Need-mul-marks
 mul-marks c = omega (arith, c .before .slice-known2 .given (c .before .before .before .found2 .given .0 .0 .0))
 
 add-marks : tie.Need-add-marks
-add-marks c = omega (arith, c .before .slice-known2 .given (c .before .before .before .found2 .given .0 .0 .0), c .before .before .before .before .before .before .before .before .before .before .before .pre)
+add-marks c = omega (arith, c .before .slice-known2 .given (c .before .before .before .found2 .given .0 .0 .0), c .before .before .before .before .before .before .before .before .before .before .before .before .pre)
 
 mul-marks-2 : tie.Need-mul-marks-2
 mul-marks-2 c = let l = looked-at _ _ _ (sym (c .before .before .before .before .before .look-up .ensures) ∙ c .before .before .before .found2 .given .1) in search needs

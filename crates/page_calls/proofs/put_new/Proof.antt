@@ -13,7 +13,7 @@ use Rattle.page_calls.proofs.put_new.Statement.{statement}
 use Rattle.page_calls.proofs.put_new.Tie as tie
 
 put-at-requires : tie.Need-put-at-requires
-put-at-requires c κs = looked-missing _ _ _ (c .before .before .before .before .before .before .pre .0) .right
+put-at-requires c κs = looked-missing _ _ _ (c .before .before .before .before .before .before .before .pre .0) .right
 
 refused-requires : tie.Need-refused-requires
 refused-requires c κs = search needs
@@ -25,16 +25,16 @@ same-length-2 : tie.Need-same-length-2
 same-length-2 c = search needs
 
 returns : tie.Need-returns
-returns c = returns-it (c .refused .ensures) (put-full _ _ _ _ (c .before .before .before .before .before .before .before .before .before .pre .0) (subst (λ (p : Place). length (now (c .before .before .before .before .before .before .before .before .before .args .marks)) ≤ p .0) (c .before .before .put-at .ensures) (c .before .if1 .taken)))
+returns c = returns-it (c .refused .ensures) (put-full _ _ _ _ (c .before .before .before .before .before .before .before .before .before .before .pre .0) (subst (λ (p : Place). length (now (c .before .before .before .before .before .before .before .before .before .before .args .marks)) ≤ p .0) (c .before .before .put-at .ensures) (c .before .if1 .taken)))
 
 cast-marks : tie.Need-cast-marks
-cast-marks c = omega (arith, looked-missing _ _ _ (c .before .before .before .before .before .before .before .before .pre .0) .name-high)
+cast-marks c = omega (arith, looked-missing _ _ _ (c .before .before .before .before .before .before .before .before .before .pre .0) .name-high)
 
 mul-marks : tie.Need-mul-marks
-mul-marks c = omega (arith, looked-missing _ _ _ (c .before .before .before .before .before .before .before .before .pre .0) .name-high)
+mul-marks c = omega (arith, looked-missing _ _ _ (c .before .before .before .before .before .before .before .before .before .pre .0) .name-high)
 
 add-marks : tie.Need-add-marks
-add-marks c = omega (arith, looked-missing _ _ _ (c .before .before .before .before .before .before .before .before .pre .0) .name-high, c .before .before .before .before .before .before .before .before .pre .1)
+add-marks c = omega (arith, looked-missing _ _ _ (c .before .before .before .before .before .before .before .before .before .pre .0) .name-high, c .before .before .before .before .before .before .before .before .before .pre .1)
 
 mul-marks-2 : tie.Need-mul-marks-2
 mul-marks-2 c = search needs
@@ -58,7 +58,7 @@ same-length-4 : tie.Need-same-length-4
 same-length-4 c = search needs
 
 returns-2 : tie.Need-returns-2
-returns-2 c = returns-it (c .done .ensures) (put-done _ _ _ _ (c .before .before .before .before .before .before .before .before .before .before .before .before .before .before .before .pre .0) _ (c .before .before .before .before .before .before .before .before .put-at .ensures) (c .before .before .before .before .before .before .before .if1 .left) _ (omega arith) _ (c .before .before .before .before .before .fill-words .ensures) (c .before .frame-at .result) (c .before .frame-at .ensures))
+returns-2 c = returns-it (c .done .ensures) (put-done _ _ _ _ (c .before .before .before .before .before .before .before .before .before .before .before .before .before .before .before .before .pre .0) _ (c .before .before .before .before .before .before .before .before .put-at .ensures) (c .before .before .before .before .before .before .before .if1 .left) _ (omega arith) _ (c .before .before .before .before .before .fill-words .ensures) (c .before .frame-at .result) (c .before .frame-at .ensures))
 
 pub put-new-spec : {M : Type 1} → statement M
 put-new-spec =

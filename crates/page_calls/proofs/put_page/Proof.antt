@@ -33,7 +33,7 @@ returns : tie.Need-returns
 returns c = returns-it (c .refused2 .ensures) (put-refused _ _ _ _ (sym (c .before .before .before .before .before .look-up .ensures) ∙ c .before .before .before .found .given .1) (c .before .if1 .taken))
 
 put-new-requires : tie.Need-put-new-requires
-put-new-requires c κs = (sym (c .before .before .before .before .before .before .look-up .ensures) ∙ c .before .before .before .before .found .given .1 ∙ ap Not (c .before .before .if1 .left), c .before .before .before .before .before .before .before .before .before .before .before .before .before .pre)
+put-new-requires c κs = (sym (c .before .before .before .before .before .before .look-up .ensures) ∙ c .before .before .before .before .found .given .1 ∙ ap Not (c .before .before .if1 .left), c .before .before .before .before .before .before .before .before .before .before .before .before .before .before .pre)
 
 same-length-3 : tie.Need-same-length-3
 same-length-3 c = search needs

@@ -11,7 +11,7 @@ use Rattle.playback.proofs.answer_one.Tie as tie
 
 -- the tables that the caller lends
 abbrev lent-by : tie.Start → Tables
-lent-by c = tables (now (c .args .marks)) (now (c .args .words)) (now (c .args .bitmap))
+lent-by c = tables (now (c .args .marks)) (now (c .args .words)) (now (c .args .bitmap)) (now (c .args .owners))
 
 answer-requires : tie.Need-answer-requires
 answer-requires c κs = search needs
@@ -19,12 +19,12 @@ answer-requires c κs = search needs
 put-line-requires : tie.Need-put-line-requires
 put-line-requires c κs = search needs
 
-add-t24 : tie.Need-add-t24
-add-t24 c = let given = c .before .before .before .before .before .before .before .before .before .before .before .before .before .before .before .before .before .before .before .before .before .before .before .before .before .before in omega (arith, given .pre .1)
+add-t27 : tie.Need-add-t27
+add-t27 c = let given = c .before .before .before .before .before .before .before .before .before .before .before .before .before .before .before .before .before .before .before .before .before .before .before .before .before .before .before .before .before .before in omega (arith, given .pre .1)
 
-add-t25 : tie.Need-add-t25
-add-t25 c =
-    let given = c .before .before .before .before .before .before .before .before .before .before .before .before .before .before .before .before .before .before .before .before .before .before .before .before .before .before .before in
+add-t28 : tie.Need-add-t28
+add-t28 c =
+    let given = c .before .before .before .before .before .before .before .before .before .before .before .before .before .before .before .before .before .before .before .before .before .before .before .before .before .before .before .before .before .before .before in
     omega (arith, step-left (length (now (given .args .out))) (given .args .p .text) (given .args .p .step) (given .pre .0))
 
 same-length : tie.Need-same-length
@@ -42,13 +42,16 @@ same-length-4 c = search needs
 same-length-5 : tie.Need-same-length-5
 same-length-5 c = search needs
 
+same-length-6 : tie.Need-same-length-6
+same-length-6 c = search needs
+
 returns : tie.Need-returns
 returns c =
-    let given = c .before .before .before .before .before .before .before .before .before .before .before .before .before .before .before .before .before .before .before .before .before .before .before .before .before .before .before in
-    let made = c .before .before .before .before .before .before .before .before .before .before .before .before .before .before .before .before .answer in
+    let given = c .before .before .before .before .before .before .before .before .before .before .before .before .before .before .before .before .before .before .before .before .before .before .before .before .before .before .before .before .before .before .before in
+    let made = c .before .before .before .before .before .before .before .before .before .before .before .before .before .before .before .before .before .before .answer in
     let line = c .before .before .before .before .put-line in
     one-answered (progressWith (given .args .p) (now (given .args .areas))) (now (given .args .out)) (lent-by given) (given .args .call) (given .args .size)
-    (made .result) (made .last .0) (made .last .1 .0) (made .last .1 .1 .0) (made .last .1 .1 .1 .0)
+    (made .result) (made .last .0) (made .last .1 .0) (made .last .1 .1 .0) (made .last .1 .1 .1 .0) (made .last .1 .1 .1 .1 .0)
     (line .last .0) (line .result)
     (given .pre .0) (made .ensures) (line .ensures)
 
@@ -58,11 +61,12 @@ answer-one-spec =
     (tie.spec
     answer-requires
     put-line-requires
-    add-t24
-    add-t25
+    add-t27
+    add-t28
     same-length
     same-length-2
     same-length-3
     same-length-4
     same-length-5
+    same-length-6
     returns)

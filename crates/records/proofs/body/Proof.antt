@@ -59,9 +59,9 @@ device-store-requires : tie.Need-device-store-requires
 unfolding bodyLength bodyOf bodies sum
 device-store-requires c κs = omega (arith, same-length (c .match .keys11))
 
-number-requires-7 : tie.Need-number-requires-7
+device-read-requires : tie.Need-device-read-requires
 unfolding bodyLength bodyOf bodies sum
-number-requires-7 c κs = omega (arith, same-length (c .match .keys12))
+device-read-requires c κs = omega (arith, same-length (c .match .keys12))
 
 declare-requires : tie.Need-declare-requires
 unfolding bodyLength bodyOf bodies sum
@@ -134,7 +134,7 @@ body-spec =
     grant-requires
     release-requires
     device-store-requires
-    number-requires-7
+    device-read-requires
     declare-requires
     returns
     returns-2

@@ -20,11 +20,17 @@ add-number-2 c = search needs
 number-requires-3 : tie.Need-number-requires-3
 number-requires-3 c κs = search needs
 
+add-number-3 : tie.Need-add-number-3
+add-number-3 c = search needs
+
+number-requires-4 : tie.Need-number-requires-4
+number-requires-4 c κs = search needs
+
 returns : tie.Need-returns
 unfolding bodyAt bodyOf bodies numbers
-returns c = cc (add-zero (c .before .before .before .before .args .at))
+returns c = cc (add-zero (c .before .before .before .before .before .args .at))
 
 pub release-spec : {M : Type 1} → statement M
 release-spec =
     tie.close
-    (tie.spec number-requires add-number number-requires-2 add-number-2 number-requires-3 returns)
+    (tie.spec number-requires add-number number-requires-2 add-number-2 number-requires-3 add-number-3 number-requires-4 returns)

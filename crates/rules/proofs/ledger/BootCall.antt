@@ -14,7 +14,7 @@ use Rattle.search.proofs.Ranges.{none-some}
 use Rattle.frames.specs.Units.{place, bit}
 use Rattle.frames.specs.Marks.{isGranted}
 use Rattle.frames.specs.Areas.{perBit}
-use Rattle.frames.specs.Tables.{Tables, markAt, wordAt}
+use Rattle.frames.specs.Tables.{Tables, markAt, wordAt, ownerAt}
 use Rattle.regions.specs.declared.Region.{Region}
 use Rattle.text.specs.Reading.{Read, gives, refuses, _then_, refuseIf}
 use Rattle.regions.specs.Text.{mostRegions, regions}
@@ -30,6 +30,7 @@ use Rattle.rules.specs.ledger.Ledger.{emptyLedger, isAmong}
 use Rattle.rules.specs.ledger.Lists.{isRefused}
 use Rattle.rules.specs.steps.Invariant.{BitsSound, Sound}
 use Rattle.frames.proofs.FillFacts.{length-fill}
+use Rattle.rules.specs.promises.Changes.{SameLengths}
 use Rattle.rules.proofs.ShapeFacts.{shape-lengths}
 use Rattle.rules.proofs.ledger.BitRuns.{zero-clear, place-inside, word-inside}
 use Rattle.rules.proofs.ledger.Grants.{at-none, among-none}
@@ -42,12 +43,9 @@ abbrev pub Fine : Tables → Read Record → Type 0
 Fine t (gives m at) = (shapeRight m t ≡ true) × (length (m .areas) ≡ mostAreaNumbers)
 Fine t (refuses number at) = 0 < number
 
-fine-lengths :
-    (t t′ : Tables) →
-    length (t′ .marks) ≡ length (t .marks) →
-    length (t′ .words) ≡ length (t .words) → length (t′ .bitmap) ≡ length (t .bitmap) → (r : Read Record) → Fine t′ r → Fine t r
-fine-lengths t t′ a b c (gives m at) f = (sym (shape-lengths m t t′ a b c) ∙ f .0, f .1)
-fine-lengths t t′ a b c (refuses number at) f = f
+fine-lengths : (t t′ : Tables) → SameLengths t t′ → (r : Read Record) → Fine t′ r → Fine t r
+fine-lengths t t′ s (gives m at) f = (sym (shape-lengths m t t′ s) ∙ f .0, f .1)
+fine-lengths t t′ s (refuses number at) f = f
 
 fine-then :
     (t : Tables) (P : List Region → Type 0) (r : Read (List Region)) (next : List Region → ℕ → Read Record) →
@@ -69,7 +67,7 @@ declare-all (r ∷ rs) i m t shape records =
     (λ number h. rw (ne-eqb number 0 (omega arith)) h)
     (λ d.
     let next = withArea m (newArea m (requestOf r) t) in
-    fine-lengths t (newTables m (requestOf r) t) refl refl (length-fill 0 (t .bitmap) _ _) (declareAll rs (suc i) next (newTables m (requestOf r) t))
+    fine-lengths t (newTables m (requestOf r) t) (record { marks = refl; words = refl; bitmap = length-fill 0 (t .bitmap) _ _; owners = refl }) (declareAll rs (suc i) next (newTables m (requestOf r) t))
     (declare-all rs (suc i) next (newTables m (requestOf r) t) (declared-shape m (requestOf r) t shape records d) (declared-records m (requestOf r) t shape records d)))
 
 module _ (base frames blockOrder : ℕ) (text : List ℕ) (t : Tables) where
@@ -97,6 +95,12 @@ module _ (m : Record) (t : Tables) (shape : shapeRight m (zeroTables t) ≡ true
       let s = shape-known m (zeroTables t) shape in
       let n = sym (length-replicate (length (t .words)) 0) ∙ s .words-length in
       getD-replicate (length (t .words)) q 0 0 (rw n h)
+
+  zero-owner : (q : ℕ) → q < m .memory .frames → ownerAt (zeroTables t) (place q) ≡ 0
+  zero-owner q h =
+      let s = shape-known m (zeroTables t) shape in
+      let n = sym (length-replicate (length (t .owners)) 0) ∙ s .owners-length in
+      getD-replicate (length (t .owners)) q 0 0 (rw n h)
 
   zero-bits : BitsSound m (zeroTables t)
   zero-bits =
@@ -131,6 +135,8 @@ module _ (m : Record) (t : Tables) (shape : shapeRight m (zeroTables t) ≡ true
             let none = many-zero (λ p. isGranted (markAt (zeroTables t) (place p))) 0 (m .memory .frames) (λ k a b. ap isGranted (zero-mark k (omega arith))) in
             omega arith;
         bits = zero-bits;
+        owners = λ q h.
+            rw (zero-mark q h, zero-owner q h) (record { owned = λ e. clash false e refl; known = λ e. clash false e refl; none = λ _. refl });
       }
 
 outcome-sound :

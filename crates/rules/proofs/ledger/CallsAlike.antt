@@ -1,4 +1,4 @@
--- One call in two runs, on tables that differ only in the words of chosen pages. Every check and every choice reads marks, bits and lengths
+-- One call in two runs, on tables that differ only in the words of chosen pages. Every check and every choice reads marks, bits, owners and lengths
 -- alone, so it is the same in both. Assumes nothing.
 --     refused-alike   a call that is refused has the same answer on the same tables with other words, of the same number
 --     SeenAlike       the same record, the same answer but for hidden words, and tables that still differ in no more
@@ -18,7 +18,7 @@ use Rattle.answer.specs.Answers.{done, refused}
 use Rattle.frames.specs.declared.Frame.{Frame}
 use Rattle.frames.specs.Units.{place}
 use Rattle.frames.specs.Marks.{fieldOf, markOf, hasKind, isPageOf, isGranted, movable}
-use Rattle.frames.specs.Tables.{Tables, markAt, wordAt, setPage, fill, fillPages, withBitmap}
+use Rattle.frames.specs.Tables.{Tables, markAt, wordAt, setPage, fill, fillPages, withBitmap, withOwners}
 use Rattle.text.specs.Reading.{Read, gives, refuses}
 use Rattle.rules.specs.declared.Call.{Call}
 use Rattle.rules.specs.declared.Call.the-variants as Call
@@ -43,7 +43,7 @@ use Rattle.rules.proofs.EachCall.{otherWords, shapeFirst, each-twice}
 use Rattle.rules.proofs.ShapeFacts.{shape-lengths}
 use Rattle.rules.proofs.promises.Boots.{record-lengths}
 use Rattle.rules.proofs.ledger.Names.{live-here}
-use Rattle.rules.proofs.ledger.OtherWords.{isHidden, SameWords, Alike, alike-words, to-alike, set-alike, fill-alike, bitmap-alike}
+use Rattle.rules.proofs.ledger.OtherWords.{isHidden, SameWords, Alike, alike-words, to-alike, set-alike, fill-alike, others-alike}
 
 -- a word that is hidden is not seen
 seen-word : (hidden : Bool) → hidden ≡ true → (a : Answer) → (if hidden then withoutWord a else a) ≡ withoutWord a
@@ -72,7 +72,7 @@ checked-alike P m t t′ wrong wrong′ rest o o′ refusal e passed =
 -- ---- a call that is refused
 
 same-shape : (m : Record) (t : Tables) (words : List ℕ) → length words ≡ length (t .words) → shapeWrong m t ≡ shapeWrong m (otherWords t words)
-same-shape m t words e = ap not (sym (shape-lengths m t (otherWords t words) refl e refl))
+same-shape m t words e = ap not (sym (shape-lengths m t (otherWords t words) (record { marks = refl; words = e; bitmap = refl; owners = refl })))
 
 -- what is refused in one run has the same answer in the other
 abbrev pub RefusedAlike : Outcome → Outcome → Type 0
@@ -95,7 +95,7 @@ module _ (m : Record) (t : Tables) (words : List ℕ) (same-length : length word
       RefusedAlike (Boot.boot m base frames blockOrder text t) (Boot.boot m base frames blockOrder text (otherWords t words))
   unfolding Boot.boot
   boot-refused base frames blockOrder text =
-      rw (record-lengths t (otherWords t words) (record { marks = refl; words = same-length; bitmap = refl }) base frames blockOrder text)
+      rw (record-lengths t (otherWords t words) (record { marks = refl; words = same-length; bitmap = refl; owners = refl }) base frames blockOrder text)
       (booted-refused (bootRecord base frames blockOrder text t))
 
 call-refused :
@@ -206,37 +206,45 @@ module _ (hides : ℕ → Bool) (m : Record) (t : Tables) (words : List ℕ) (s 
       (λ n. ap (λ (x : ℕ). seen hides (Call.Read name) (done first x)) (sym (s .same (p .0) (hidden-is name live ∙ n))))))
 
   device-store-alike :
-      (f : Frame) (word : ℕ) →
-      SeenAlike hides (Call.DeviceStore f word) (Call.DeviceStore f word) (Device.deviceStore m f word t) (Device.deviceStore m f word t′)
+      (f : Frame) (word device : ℕ) →
+      let c = Call.DeviceStore f word device in
+      SeenAlike hides c c (Device.deviceStore m f word device t) (Device.deviceStore m f word device t′)
   unfolding Device.deviceStore
-  device-store-alike f word =
-      checks-alike (Call.DeviceStore f word) (Call.DeviceStore f word) (λ _. refl) _ _ _
+  device-store-alike f word device =
+      let c = Call.DeviceStore f word device in
+      checks-alike c c (λ _. refl) _ _ _
       (λ passed.
-      one-frame (Call.DeviceStore f word) (Call.DeviceStore f word) (done 0 0) (placeOf m f .0) (markAt t (placeOf m f)) word word refl (λ _. refl))
+      one-frame c c (done 0 0) (placeOf m f .0) (markAt t (placeOf m f)) word word refl (λ _. refl))
 
-  device-read-alike : (f : Frame) → SeenAlike hides (Call.DeviceRead f) (Call.DeviceRead f) (Device.deviceRead m f t) (Device.deviceRead m f t′)
+  device-read-alike :
+      (f : Frame) (device : ℕ) →
+      let c = Call.DeviceRead f device in
+      SeenAlike hides c c (Device.deviceRead m f device t) (Device.deviceRead m f device t′)
   unfolding Device.deviceRead
-  device-read-alike f =
-      checks-alike (Call.DeviceRead f) (Call.DeviceRead f) (λ _. refl) _ _ _
+  device-read-alike f device =
+      let c = Call.DeviceRead f device in
+      checks-alike c c (λ _. refl) _ _ _
       (λ passed.
       let mark = markAt t (placeOf m f) in
       let granted : isGranted mark ≡ true = not-false (isGranted mark) (passed .1 .0) in
-      unchanged (Call.DeviceRead f) (Call.DeviceRead f) (done (wordAt t (placeOf m f)) 0) (done (wordAt t′ (placeOf m f)) 0)
+      unchanged c c (done (wordAt t (placeOf m f)) 0) (done (wordAt t′ (placeOf m f)) 0)
       (ap (λ (x : ℕ). done x 0) (sym (s .same (placeOf m f .0) (ap (λ (b : Bool). b && hides (fieldOf mark)) (granted-page mark granted))))))
 
   release-alike :
-      (i : ℕ) (f : Frame) (count : ℕ) →
-      SeenAlike hides (Call.Release i f count) (Call.Release i f count) (Device.release m i f count t) (Device.release m i f count t′)
+      (i : ℕ) (f : Frame) (count device : ℕ) →
+      let c = Call.Release i f count device in
+      SeenAlike hides c c (Device.release m i f count device t) (Device.release m i f count device t′)
   unfolding Device.release laterFrames freeRun
-  release-alike i f count =
-      checks-alike (Call.Release i f count) (Call.Release i f count) (λ _. refl) _ _ _
+  release-alike i f count device =
+      let c = Call.Release i f count device in
+      checks-alike c c (λ _. refl) _ _ _
       (λ passed.
       record {
         machine = refl;
         answer = refl;
         left =
             to-alike hides (freeRun m t i f count) (fill words (placeOf m f .0) count 0)
-            (bitmap-alike hides (fillPages t (placeOf m f) count 0 0) (fill words (placeOf m f .0) count 0) (freeRun m t i f count .bitmap)
+            (others-alike hides (fillPages t (placeOf m f) count 0 0) (fill words (placeOf m f .0) count 0) (freeRun m t i f count .bitmap) (freeRun m t i f count .owners)
             (fill-alike hides count t words (placeOf m f .0) 0 0 s));
       })
 
@@ -244,7 +252,7 @@ module _ (hides : ℕ → Bool) (m : Record) (t : Tables) (words : List ℕ) (s 
   unfolding Declare.declare isVacant freeOrdinary fitsAt highestFit
   declare-alike r =
       checks-alike (Call.Declare r) (Call.Declare r) (λ _. refl) _ _ _
-      (λ passed. record { machine = refl; answer = refl; left = to-alike hides _ words (bitmap-alike hides t words _ s) })
+      (λ passed. record { machine = refl; answer = refl; left = to-alike hides _ words (others-alike hides t words _ (t .owners) s) })
 
   move-alike : (p : ℕ) → Alike hides (movePage m t (place p)) (movePage m t′ (place p))
   unfolding movePage freeOrdinary
@@ -267,14 +275,20 @@ move-out-alike hides m (suc d) p t t′ a =
     alike-words hides t t′ (λ x. Alike hides (moveOut m (movePage m t (place p)) (place (suc p)) d) (moveOut m (movePage m x (place p)) (place (suc p)) d)) a
     (λ words s. move-out-alike hides m d (suc p) (movePage m t (place p)) (movePage m (otherWords t words) (place p)) (move-alike hides m t words s p))
 
-mark-run-alike : (hides : ℕ → Bool) (p count : ℕ) (t t′ : Tables) (bitmap : List ℕ) → Alike hides t t′ → Alike hides (withBitmap (markRun t (place p) count) bitmap) (withBitmap (markRun t′ (place p) count) bitmap)
-mark-run-alike hides p count t t′ bitmap a =
-    alike-words hides t t′ (λ x. Alike hides (withBitmap (markRun t (place p) count) bitmap) (withBitmap (markRun x (place p) count) bitmap)) a
+-- a run that is marked, beside some bitmap and owners
+abbrev markedWith : Tables → ℕ → ℕ → List ℕ → List ℕ → Tables
+markedWith t p count bitmap owners = withOwners (withBitmap (markRun t (place p) count) bitmap) owners
+
+mark-run-alike :
+    (hides : ℕ → Bool) (p count : ℕ) (t t′ : Tables) (bitmap owners : List ℕ) →
+    Alike hides t t′ → Alike hides (markedWith t p count bitmap owners) (markedWith t′ p count bitmap owners)
+mark-run-alike hides p count t t′ bitmap owners a =
+    alike-words hides t t′ (λ x. Alike hides (markedWith t p count bitmap owners) (markedWith x p count bitmap owners)) a
     (λ words s.
     let head = markOf count 4 in
     let first = setPage t (place p) head 0 in
-    to-alike hides (withBitmap (markRun t (place p) count) bitmap) (fill (set words p 0) (suc p) (count - 1) 0)
-    (bitmap-alike hides (markRun t (place p) count) (fill (set words p 0) (suc p) (count - 1) 0) bitmap
+    to-alike hides (markedWith t p count bitmap owners) (fill (set words p 0) (suc p) (count - 1) 0)
+    (others-alike hides (markRun t (place p) count) (fill (set words p 0) (suc p) (count - 1) 0) bitmap owners
     (fill-alike hides (count - 1) first (set words p 0) (suc p) (markOf 0 5) 0 (set-alike hides t words p head 0 0 s (λ _. refl)))))
 
 pub zero-alike : (hides : ℕ → Bool) (t : Tables) → length (t .marks) ≡ length (t .words) → SameWords hides (zeroTables t) (zeroTables t .words)
@@ -287,12 +301,12 @@ zero-alike hides t square =
 
 module _ (hides : ℕ → Bool) (m : Record) (t : Tables) (words : List ℕ) (s : SameWords hides t words) where
   grant-alike :
-      (i count alignOrder : ℕ) →
-      let c = Call.Grant i count alignOrder in
-      SeenAlike hides c c (Device.grant m i count alignOrder t) (Device.grant m i count alignOrder (otherWords t words))
+      (i count alignOrder device : ℕ) →
+      let c = Call.Grant i count alignOrder device in
+      SeenAlike hides c c (Device.grant m i count alignOrder device t) (Device.grant m i count alignOrder device (otherWords t words))
   unfolding Device.grant chosen isGrantable isCandidate movers targets freeOrdinary takeRun
-  grant-alike i count alignOrder =
-      let c = Call.Grant i count alignOrder in
+  grant-alike i count alignOrder device =
+      let c = Call.Grant i count alignOrder device in
       let p = placeOfBit m i (chosen m t i count alignOrder) .0 in
       checks-alike hides m t words s c c (λ _. refl) _ _ _
       (λ passed.
@@ -300,7 +314,7 @@ module _ (hides : ℕ → Bool) (m : Record) (t : Tables) (words : List ℕ) (s 
         machine = refl;
         answer = refl;
         left =
-            mark-run-alike hides p count (moveOut m t (place p) count) (moveOut m (otherWords t words) (place p) count) _
+            mark-run-alike hides p count (moveOut m t (place p) count) (moveOut m (otherWords t words) (place p) count) _ _
             (move-out-alike hides m count p t (otherWords t words) (to-alike hides t words s));
       })
 
@@ -312,10 +326,10 @@ module _ (hides : ℕ → Bool) (m : Record) (t : Tables) (words : List ℕ) (s 
   same-alike (Call.Unpin name) text e = kind-alike hides m t words s (Call.Unpin name) 2 1 name (page-named name (markOf name 1) (rw (mark-kind name 1 (omega arith))) (mark-field name 1 (omega arith)))
   same-alike (Call.Store name word) text e = store-alike hides m t words s name word word (λ _. refl)
   same-alike (Call.Read name) text e = read-alike hides m t words s name
-  same-alike (Call.Grant area count alignOrder) text e = grant-alike area count alignOrder
-  same-alike (Call.Release area f count) text e = release-alike hides m t words s area f count
-  same-alike (Call.DeviceStore f word) text e = device-store-alike hides m t words s f word
-  same-alike (Call.DeviceRead f) text e = device-read-alike hides m t words s f
+  same-alike (Call.Grant area count alignOrder device) text e = grant-alike area count alignOrder device
+  same-alike (Call.Release area f count device) text e = release-alike hides m t words s area f count device
+  same-alike (Call.DeviceStore f word device) text e = device-store-alike hides m t words s f word device
+  same-alike (Call.DeviceRead f device) text e = device-read-alike hides m t words s f device
   same-alike (Call.Declare request) text e = declare-alike hides m t words s request
   same-alike (Call.Boot base frames blockOrder) text e = clash true refl e
 

@@ -1,33 +1,34 @@
--- What the invariant says of a state: parts (1) to (4) of demand 3, of which (2) says more of the list. Assumes nothing.
+-- What the invariant says of a state: parts (1) to (5) of demand 3, of which (2) says more of the list. Assumes nothing.
 use Prim.Native.Nat.{ℕ, _+_, _-_, _≤_, _<_}
 use native.Mathlib.Omega.{arith}
-use mathlib.Core.Bool.{Bool, true, false, not}
+use mathlib.Core.Bool.{Bool, true, false, not, _&&_, _||_}
 use mathlib.Core.Logic.{_≢_}
 use mathlib.Core.Path.{_≡_, refl, sym, ap, _∙_}
-use lib.Dec.{leb, ltb}
-use borrow.Author.Tests.{ltb-true, lt-ltb, le-ltb, lt-leb, not-false}
+use lib.Dec.{leb, ltb, eqb}
+use borrow.Author.Tests.{ltb-true, ltb-false, lt-ltb, le-ltb, lt-leb, eqb-true, eq-eqb, ne-eqb, not-false}
 use Rattle.search.specs.Choice.{if_then_else_}
-use Rattle.search.proofs.Bools.{by-cases, below-or-not, clash, or-neither}
+use Rattle.search.proofs.Bools.{by-cases, below-or-not, clash, or-neither, or-left, or-right, and-left, and-right, and-both}
 use Rattle.answer.specs.Answers.{done}
 use Rattle.frames.specs.declared.Frame.{Frame}
 use Rattle.frames.specs.Units.{frame, place}
-use Rattle.frames.specs.Marks.{kindOf, markOf, hasKind, isPageOf, isGranted, pinned}
-use Rattle.frames.specs.Tables.{Tables, markAt, wordAt}
+use Rattle.frames.specs.Marks.{kindOf, markOf, hasKind, isPageOf, isGranted, pinned, later}
+use Rattle.frames.specs.Tables.{Tables, markAt, wordAt, ownerAt}
 use Rattle.rules.specs.declared.Record.{Record}
 use Rattle.rules.specs.Record.{placeOf, frameAt, endFrame}
-use Rattle.rules.specs.Outcomes.{Outcome, outcome}
+use Rattle.rules.specs.Outcomes.{Outcome, outcome, checked, Passed, here, there}
 use Rattle.rules.specs.PageCalls.{pageAt, isLive, readPage}
-use Rattle.rules.specs.DeviceCalls.{deviceRead}
+use Rattle.rules.specs.DeviceCalls.{badDevice, outsideMemory, deviceChecks, deviceStore, deviceRead, release}
 use Rattle.rules.specs.ledger.Ledger.{grantsAt}
 use Rattle.rules.specs.ledger.Lists.{State, isRefused}
-use Rattle.rules.specs.ledger.Statement.{isLiveFrame, markOfPage, ReadsRight, PinsRight, GrantsRight, DeviceWordsRight}
-use Rattle.rules.proofs.Checks.{checked-cases, checked-passed}
+use Rattle.rules.specs.ledger.Statement.{isLiveFrame, deviceOf, markOfPage, ReadsRight, PinsRight, GrantsRight, DeviceWordsRight, OwnersRight}
+use Rattle.rules.proofs.Checks.{checked-cases, checked-first, checked-passed}
 use Rattle.rules.proofs.ledger.Marks.{has-kind, kind-has, page-field}
 use Rattle.rules.proofs.ledger.Names.{live-is}
 use Rattle.rules.proofs.ledger.Grants.{at-among, takes-low, takes-high}
 use Rattle.rules.proofs.ledger.Kept.{refused-number}
 use Rattle.rules.proofs.ledger.PageCalls.{FoundPage, live-page}
 use Rattle.rules.proofs.ledger.DeviceWords.{memory-low, memory-high}
+use Rattle.rules.proofs.ledger.Release.{releasable}
 use Rattle.rules.proofs.ledger.Histories.{SoundState}
 
 module _ (s : State) (sound : SoundState s) where
@@ -171,35 +172,119 @@ module _ (s : State) (sound : SoundState s) where
         let same : m .memory .base .0 + (f .0 - m .memory .base .0) ≡ f .0 = omega arith in
         sound .places (f .0 - m .memory .base .0) (omega arith) .granted (live-granted e) ∙ ap (s .ledger .deviceWord) same
 
-    device-done : isLiveFrame s f ≡ true → deviceRead m f t ≡ outcome m (done (wordAt t (placeOf m f)) 0) t
-    unfolding deviceRead
-    device-done e =
+    live-owner : isLiveFrame s f ≡ true → ownerAt t (placeOf m f) ≡ deviceOf s f
+    live-owner e =
         let inside = live-inside f (ltb-true 0 (grantsAt (s .ledger .grants) f) e) in
-        checked-passed m t _ _ (
-          ap not (sound .shape),
-          (
-            or-neither (ltb (f .0) (m .memory .base .0)) (leb (endFrame m) (f .0)) (le-ltb (f .0) (m .memory .base .0) (inside .0)) (lt-leb (endFrame m) (f .0) (inside .1)),
-            (ap not (live-granted e), tt),
-          ),
-        )
+        let low = inside .0 in
+        let high = inside .1 in
+        let same : m .memory .base .0 + (f .0 - m .memory .base .0) ≡ f .0 = omega arith in
+        sound .owners (f .0 - m .memory .base .0) (omega arith) .owned (live-granted e) ∙ ap (s .ledger .device) same
 
-    device-refused : isLiveFrame s f ≡ false → isRefused (deviceRead m f t) ≡ true
-    unfolding deviceRead
-    device-refused e =
-        checked-cases (λ o. isRefused o ≡ true) m t _ _ refl (refused-number m t)
-        (λ passed.
-        let low = memory-low m f (passed .1 .0) in
-        let high = memory-high m f (passed .1 .0) in
-        let granted = not-false (isGranted (markAt t (placeOf m f))) (passed .1 .1 .0) in
-        clash (isLiveFrame s f)
-        (marked-live (isGranted (markAt t (placeOf m f))) (grantsAt (s .ledger .grants) f) (at-frame f low high) ∙ granted) e)
+    live-device : isLiveFrame s f ≡ true → badDevice (deviceOf s f) ≡ false
+    live-device e =
+        let inside = live-inside f (ltb-true 0 (grantsAt (s .ledger .grants) f) e) in
+        let low = inside .0 in
+        let high = inside .1 in
+        ap badDevice (sym (live-owner e)) ∙ sound .owners (f .0 - m .memory .base .0) (omega arith) .known (live-granted e)
+
+    -- a granted frame of memory is one of a live grant
+    granted-live : m .memory .base .0 ≤ f .0 → f .0 < endFrame m → isGranted (markAt t (placeOf m f)) ≡ true → isLiveFrame s f ≡ true
+    granted-live low high granted =
+        marked-live (isGranted (markAt t (placeOf m f))) (grantsAt (s .ledger .grants) f) (at-frame f low high) ∙ granted
+
+    -- ---- the checks of a device store or a device read
+
+    module _ (device : ℕ) where
+      range-passed : isLiveFrame s f ≡ true → badDevice device ≡ false → (outsideMemory (m .memory) f || badDevice device) ≡ false
+      range-passed e known =
+          let inside = live-inside f (ltb-true 0 (grantsAt (s .ledger .grants) f) e) in
+          or-neither (outsideMemory (m .memory) f) (badDevice device)
+          (or-neither (ltb (f .0) (m .memory .base .0)) (leb (endFrame m) (f .0)) (le-ltb (f .0) (m .memory .base .0) (inside .0)) (lt-leb (endFrame m) (f .0) (inside .1)))
+          known
+
+      owner-passes : isLiveFrame s f ≡ true → device ≡ deviceOf s f → Passed (deviceChecks m f device t)
+      owner-passes e is = (
+        ap not (sound .shape),
+        (
+          range-passed e (ap badDevice is ∙ live-device e),
+          (ap not (live-granted e), (ap not (eq-eqb (ownerAt t (placeOf m f)) device (live-owner e ∙ sym is)), tt)),
+        ),
+      )
+
+      passed-owner : Passed (deviceChecks m f device t) → (isLiveFrame s f && eqb device (deviceOf s f)) ≡ true
+      passed-owner passed =
+          let inside = or-left (outsideMemory (m .memory) f) (badDevice device) (passed .1 .0) in
+          let granted = not-false (isGranted (markAt t (placeOf m f))) (passed .1 .1 .0) in
+          let live = granted-live (memory-low m f inside) (memory-high m f inside) granted in
+          let owner = eqb-true (ownerAt t (placeOf m f)) device (not-false (eqb (ownerAt t (placeOf m f)) device) (passed .1 .1 .1 .0)) in
+          and-both (isLiveFrame s f) (eqb device (deviceOf s f)) live (eq-eqb device (deviceOf s f) (sym owner ∙ live-owner live))
+
+      -- accepted just for a frame of a live grant and by its owner
+      owner-only :
+          (o : Outcome) → o .answer .refusal ≡ 0 → not (isRefused (checked m t (deviceChecks m f device t) o)) ≡ (isLiveFrame s f && eqb device (deviceOf s f))
+      owner-only o accepted =
+          by-cases (isLiveFrame s f && eqb device (deviceOf s f))
+          (λ y.
+          let live = and-left (isLiveFrame s f) (eqb device (deviceOf s f)) y in
+          let is = eqb-true device (deviceOf s f) (and-right (isLiveFrame s f) (eqb device (deviceOf s f)) y) in
+          ap (λ (x : Outcome). not (isRefused x)) (checked-passed m t _ o (owner-passes live is)) ∙ ap (λ (n : ℕ). not (not (eqb n 0))) accepted ∙ sym y)
+          (λ n.
+          ap not
+          (checked-cases (λ x. isRefused x ≡ true) m t _ o refl (refused-number m t)
+          (λ passed. clash (isLiveFrame s f && eqb device (deviceOf s f)) (passed-owner passed) n)) ∙
+          sym n)
 
   pub device-words-right : DeviceWordsRight s
+  unfolding deviceRead
   device-words-right =
       record {
         word = live-word;
-        accepted = λ f.
-            by-cases (isLiveFrame s f) (λ e. ap (λ (o : Outcome). not (isRefused o)) (device-done f e) ∙ sym e)
-            (λ e. ap not (device-refused f e) ∙ sym e);
-        given = λ f e. ap (λ (o : Outcome). o .answer .first) (device-done f e) ∙ live-word f e;
+        accepted = λ f device. owner-only f device _ refl;
+        given = λ f e.
+            ap (λ (o : Outcome). o .answer .first) (checked-passed m t _ _ (owner-passes f (deviceOf s f) e refl)) ∙ live-word f e;
+        others = λ f device e least most other.
+            ap (λ (o : Outcome). o .answer .refusal)
+            (checked-first m t _
+            (there (ap not (sound .shape))
+            (there (range-passed f device e (or-neither (ltb device 1) (ltb 65535 device) (le-ltb device 1 least) (le-ltb 65535 device most)))
+            (there (ap not (live-granted f e))
+            (here (ap not (ne-eqb (ownerAt t (placeOf m f)) device (λ is. other (sym is ∙ live-owner f e)))))))));
+      }
+
+  -- ---- (5) owners
+
+  -- a device's number
+  device-number : (device : ℕ) → badDevice device ≡ false → (1 ≤ device) × (device ≤ 65535)
+  device-number device e = (
+    ltb-false device 1 (or-left (ltb device 1) (ltb 65535 device) e),
+    ltb-false 65535 device (or-right (ltb device 1) (ltb 65535 device) e),
+  )
+
+  -- what a refusal leaves
+  abbrev Refused : Outcome → Type 0
+  Refused o = (isRefused o ≡ true) × (o .machine ≡ m) × (o .left ≡ t)
+
+  release-refused :
+      (i : ℕ) (f : Frame) (count device : ℕ) → (isLiveFrame s f ≡ true → device ≢ deviceOf s f) → Refused (release m i f count device t)
+  unfolding release
+  release-refused i f count device other =
+      checked-cases Refused m t _ _ refl (λ number h. (refused-number m t number h, refl, refl))
+      (λ passed.
+      let ok = releasable m t (s .ledger) sound i f count device (passed .1 .0) (passed .1 .1 .0) (passed .1 .1 .1 .1 .0) in
+      let high = ok .high in
+      let some = ok .some in
+      let granted = ap (λ (b : Bool). b || hasKind later (markAt t (placeOf m f))) (ok .first) in
+      let live = granted-live f (ok .low) (omega arith) granted in
+      let owner = eqb-true (ownerAt t (placeOf m f)) device (not-false (eqb (ownerAt t (placeOf m f)) device) (passed .1 .1 .1 .0)) in
+      absurd (other live (sym owner ∙ live-owner f live)))
+
+  pub owners-right : OwnersRight s
+  unfolding deviceStore
+  owners-right =
+      record {
+        device = λ f e. device-number (deviceOf s f) (live-device f e);
+        owner = live-owner;
+        none = λ p h e. sound .owners p h .none (sym (marked-live (isGranted (markAt t (place p))) (grantsAt (s .ledger .grants) (frameAt m (place p))) (sound .covered p h)) ∙ e);
+        stores = λ f word device. owner-only f device _ refl;
+        releases = λ i f count device other. release-refused i f count device other;
       }

@@ -131,6 +131,7 @@ module _ (m : Record) (r : Request) (t : Tables) (l : Ledger) (s : Sound m t l) 
         covered = s .covered;
         total = s .total;
         bits = declared-bits;
+        owners = λ q h. let old = s .owners q h in record { owned = old .owned; known = old .known; none = old .none };
       }
 
   declared-kept :

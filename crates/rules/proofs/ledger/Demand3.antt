@@ -19,7 +19,7 @@ use Rattle.rules.specs.ledger.Statement.{Boot, outcomeOfBoot, startOfBoo
 use Rattle.rules.proofs.promises.Boots.{zero-lengths, record-lengths}
 use Rattle.rules.proofs.ledger.BootCall.{Fine, boot-fine, boot-sound}
 use Rattle.rules.proofs.ledger.Histories.{SoundState, list-sound, list-pins}
-use Rattle.rules.proofs.ledger.Conclusions.{reads-right, pins-right, grants-right, device-words-right}
+use Rattle.rules.proofs.ledger.Conclusions.{reads-right, pins-right, grants-right, device-words-right, owners-right}
 use Rattle.rules.proofs.ledger.CallsAlike.{zero-alike}
 use Rattle.rules.proofs.ledger.TwoRuns.{StatesAlike, lists-agree}
 
@@ -72,6 +72,7 @@ theorem b items accepted ok =
       pins = record { stays = λ name none. list-pins name items (startOfBoot b) none start ok (λ e. clash false e refl) };
       grants = grants-right (after (startOfBoot b) items) sound;
       deviceWords = device-words-right (after (startOfBoot b) items) sound;
+      owners = owners-right (after (startOfBoot b) items) sound;
       runs = λ c same.
           record {
             agree = λ chosen items′ list.

@@ -16,7 +16,7 @@ use Rattle.rules.specs.declared.Call.the-variants as Call
 use Rattle.rules.specs.declared.Record.{Record}
 use Rattle.rules.specs.Record.{placeOf, endFrame}
 use Rattle.rules.specs.PageCalls.{pageAt}
-use Rattle.rules.specs.DeviceCalls.{outsideMemory}
+use Rattle.rules.specs.DeviceCalls.{badDevice, outsideMemory}
 use Rattle.rules.specs.DeviceCalls as Device
 use Rattle.rules.proofs.Shapes.{Shape, shape-known}
 use Rattle.rules.specs.ledger.Ledger.{Ledger, update, withGrants}
@@ -45,7 +45,7 @@ module _ (m : Record) (t : Tables) (l : Ledger) (s : Sound m t l) (f : Frame) wh
     t′ = setPage t (place at) (markAt t (place at)) word
 
     abbrev l′ : Ledger
-    l′ = withGrants l (l .grants) (update (l .deviceWord) (f .0) word) (l .granted) (l .released)
+    l′ = withGrants l (l .grants) (update (l .deviceWord) (f .0) word) (l .device) (l .granted) (l .released)
 
     shaped : Shape m t
     shaped = shape-known m t (s .shape)
@@ -96,7 +96,10 @@ module _ (m : Record) (t : Tables) (l : Ledger) (s : Sound m t l) (f : Frame) wh
     stored : Sound m t′ l′
     stored =
         record {
-          shape = shape-lengths m t t′ (length-set (t .marks) at (markAt t (place at))) (length-set (t .words) at word) refl ∙ s .shape;
+          shape =
+              shape-lengths m t t′
+              (record { marks = length-set (t .marks) at (markAt t (place at)); words = length-set (t .words) at word; bitmap = refl; owners = refl }) ∙
+              s .shape;
           records = s .records;
           places = fits;
           names = λ x. names-kept m m t t′ l l′ refl pages x (record { live = refl; pinned = refl; word = refl }) (s .names x);
@@ -104,25 +107,29 @@ module _ (m : Record) (t : Tables) (l : Ledger) (s : Sound m t l) (f : Frame) wh
           covered = λ q h. s .covered q h ∙ ap (λ (b : Bool). if b then 1 else 0) (sym (granted-same m t t′ kept q h));
           total = ap (λ (x : ℕ). x + l .released) (total-kept m t t′ kept) ∙ s .total;
           bits = bits-kept m t t′ (s .shape) kept refl (s .bits);
+          owners = λ q h.
+              let old = s .owners q h in
+              rw (same-mark q) (record { owned = old .owned; known = old .known; none = old .none });
         }
 
     stays : (x : ℕ) → l .pinned x ≡ true → pageAt m t′ x ≡ pageAt m t x
     stays x b = pin-stays m m t t′ l l′ x (s .names x) (stored .names x) refl b b (λ p h e k. same-mark p)
 
-  pub device-store-kept : (word : ℕ) → Kept (Call.DeviceStore f word) m t l (Device.deviceStore m f word t)
+  pub device-store-kept : (word device : ℕ) → Kept (Call.DeviceStore f word device) m t l (Device.deviceStore m f word device t)
   unfolding Device.deviceStore
-  device-store-kept word =
-      checked-cases (Kept (Call.DeviceStore f word) m t l) m t _ _ refl (kept-refused (Call.DeviceStore f word) m t l s)
+  device-store-kept word device =
+      checked-cases (Kept (Call.DeviceStore f word device) m t l) m t _ _ refl (kept-refused (Call.DeviceStore f word device) m t l s)
       (λ passed.
-      let low = memory-low m f (passed .1 .0) in
-      let high = memory-high m f (passed .1 .0) in
+      let inside = or-left (outsideMemory (m .memory) f) (badDevice device) (passed .1 .0) in
+      let low = memory-low m f inside in
+      let high = memory-high m f inside in
       let granted = not-false (isGranted (markAt t (placeOf m f))) (passed .1 .1 .0) in
-      done-kept (Call.DeviceStore f word) m t (setPage t (placeOf m f) (markAt t (placeOf m f)) word) l
-      (withGrants l (l .grants) (update (l .deviceWord) (f .0) word) (l .granted) (l .released)) 0 0 refl (stored word low high granted)
+      done-kept (Call.DeviceStore f word device) m t (setPage t (placeOf m f) (markAt t (placeOf m f)) word) l
+      (withGrants l (l .grants) (update (l .deviceWord) (f .0) word) (l .device) (l .granted) (l .released)) 0 0 refl (stored word low high granted)
       (λ x a b. (b, stays word low high granted x b)))
 
-  pub device-read-kept : Kept (Call.DeviceRead f) m t l (Device.deviceRead m f t)
+  pub device-read-kept : (device : ℕ) → Kept (Call.DeviceRead f device) m t l (Device.deviceRead m f device t)
   unfolding Device.deviceRead
-  device-read-kept =
-      checked-cases (Kept (Call.DeviceRead f) m t l) m t _ _ refl (kept-refused (Call.DeviceRead f) m t l s)
-      (λ passed. done-kept (Call.DeviceRead f) m t t l l (wordAt t (placeOf m f)) 0 refl s (λ x a b. (b, refl)))
+  device-read-kept device =
+      checked-cases (Kept (Call.DeviceRead f device) m t l) m t _ _ refl (kept-refused (Call.DeviceRead f device) m t l s)
+      (λ passed. done-kept (Call.DeviceRead f device) m t t l l (wordAt t (placeOf m f)) 0 refl s (λ x a b. (b, refl)))

@@ -3,12 +3,11 @@ use Prim.Native.Nat.{ℕ, suc, _+_, _-_, _*_, _%_, _^_, _≤_, _<_}
 use native.Mathlib.Omega.{arith}
 use native.Mathlib.Nat.{mul-mod-left}
 use mathlib.Core.Bool.{true, false, _&&_, _||_}
-use mathlib.Core.List.{List, _∷_}
+use mathlib.Core.List.{List}
 use mathlib.Core.Path.{_≡_, refl, sym, ap, subst, _∙_}
 use lib.Dec.{leb, ltb, eqb}
 use lib.ListN.{length, length-set}
 use borrow.Author.Tests.{ltb-false, leb-false, leb-true, eq-eqb, eqb-false}
-use Rattle.search.specs.Choice.{if_then_else_}
 use Rattle.search.specs.Search.{every}
 use Rattle.search.proofs.Bools.{and-left, and-right, or-left, or-right}
 use Rattle.search.proofs.Lowest.{found-passes}
@@ -18,17 +17,17 @@ use Rattle.frames.specs.declared.Area.{Area}
 use Rattle.frames.specs.Units.{frame, place, bit}
 use Rattle.frames.specs.Marks.{markOf, hasKind, canLeave, head}
 use Rattle.frames.specs.Areas.{isMultiple, endOf, perBit, bitCount, frameOfBit, bitsFor}
-use Rattle.frames.specs.Tables.{Tables, markAt, setPage, withBitmap}
+use Rattle.frames.specs.Tables.{Tables, markAt, setPage, fill, withBitmap, withOwners}
 use Rattle.rules.specs.declared.Call.the-variants as Call
 use Rattle.rules.specs.declared.Record.{Record}
 use Rattle.rules.specs.Record.{areaAt}
 use Rattle.rules.specs.Limits.{mostAlignOrder}
 use Rattle.rules.specs.Shape.{shapeRight}
 use Rattle.rules.specs.PageCalls.{pageAt}
-use Rattle.rules.specs.DeviceCalls.{isUnknown, bitmapOf, placeOfBit, isCandidate, isGrantable, chosen, movers, targets, moveOut, markRun, takeRun}
+use Rattle.rules.specs.DeviceCalls.{isUnknown, badDevice, bitmapOf, placeOfBit, isCandidate, isGrantable, chosen, movers, targets, moveOut, markRun, takeRun}
 use Rattle.rules.specs.DeviceCalls as Device
 use Rattle.rules.proofs.Shapes.{shape-known}
-use Rattle.rules.specs.ledger.Ledger.{Grant, Ledger, grantOf, takes, withGrants}
+use Rattle.rules.specs.ledger.Ledger.{Grant, Ledger, grantOf, withGrant}
 use Rattle.rules.specs.steps.Invariant.{GrantInArea, BitsSound, Sound}
 use Rattle.rules.proofs.Checks.{checked-cases}
 use Rattle.rules.proofs.ledger.Marks.{isPage, page-of}
@@ -43,21 +42,25 @@ use Rattle.rules.proofs.ledger.Kept.{Kept, kept-refused, pin-stays, don
 use Rattle.rules.proofs.ledger.GrantedRun.{run-inside, RunMarked, run-marked, now-granted, grant-sound, run-pins}
 
 -- what an accepted grant has checked of its run
-pub record Grantable (m : Record) (t : Tables) (i count j : ℕ) : Type 0 where
+pub record Grantable (m : Record) (t : Tables) (i count device j : ℕ) : Type 0 where
   pub declared : i < m .memory .declared
   pub some : 1 ≤ count
   pub fits : j + bitsFor (areaAt m i) count ≤ bitCount (areaAt m i)
+  pub known : badDevice device ≡ false
   pub leave : (q : ℕ) → placeOfBit m i (bit j) .0 ≤ q → q < placeOfBit m i (bit j) .0 + count → canLeave (markAt t (place q)) ≡ true
 
-module _ (m : Record) (t : Tables) (l : Ledger) (s : Sound m t l) (i count : ℕ) where
+module _ (m : Record) (t : Tables) (l : Ledger) (s : Sound m t l) (i count device : ℕ) where
   grantable :
       (alignOrder : ℕ) →
-      (isUnknown (m .memory) i || eqb count 0 || ltb mostAlignOrder alignOrder) ≡ false →
-      leb (bitCount (areaAt m i)) (chosen m t i count alignOrder .0) ≡ false → Grantable m t i count (chosen m t i count alignOrder .0)
+      (isUnknown (m .memory) i || eqb count 0 || ltb mostAlignOrder alignOrder || badDevice device) ≡ false →
+      leb (bitCount (areaAt m i)) (chosen m t i count alignOrder .0) ≡ false → Grantable m t i count device (chosen m t i count alignOrder .0)
   unfolding chosen isGrantable isCandidate
   grantable alignOrder e₂ e₇ =
       let j = chosen m t i count alignOrder .0 in
-      let known = or-left (isUnknown (m .memory) i || eqb count 0) (ltb mostAlignOrder alignOrder) e₂ in
+      let known =
+      or-left (isUnknown (m .memory) i || eqb count 0) (ltb mostAlignOrder alignOrder)
+      (or-left (isUnknown (m .memory) i || eqb count 0 || ltb mostAlignOrder alignOrder) (badDevice device) e₂)
+      in
       let pass : isGrantable m t i count alignOrder (bit j) ≡ true =
       found-passes (λ j. isGrantable m t i count alignOrder (bit j)) (bitCount (areaAt m i)) (leb-false (bitCount (areaAt m i)) j e₇)
       in
@@ -71,10 +74,11 @@ module _ (m : Record) (t : Tables) (l : Ledger) (s : Sound m t l) (i count : ℕ
         declared = leb-false (m .memory .declared) i (or-left (isUnknown (m .memory) i) (eqb count 0) known);
         some = omega arith;
         fits = leb-true (j + bitsFor (areaAt m i) count) (bitCount (areaAt m i)) (and-right multiple lies (and-left (multiple && lies) clear candidate));
+        known = or-right (isUnknown (m .memory) i || eqb count 0 || ltb mostAlignOrder alignOrder) (badDevice device) e₂;
         leave = λ q a b. every-all (λ q. canLeave (markAt t (place q))) (placeOfBit m i (bit j) .0) count (and-right (isCandidate m t i count alignOrder (bit j)) every-leave pass) q a b;
       }
 
-  module _ (j : ℕ) (ok : Grantable m t i count j) (enough : movers t (placeOfBit m i (bit j)) count ≤ targets m t) where
+  module _ (j : ℕ) (ok : Grantable m t i count device j) (enough : movers t (placeOfBit m i (bit j)) count ≤ targets m t) where
     abbrev r : ℕ
     r = placeOfBit m i (bit j) .0
 
@@ -110,19 +114,29 @@ module _ (m : Record) (t : Tables) (l : Ledger) (s : Sound m t l) (i count : ℕ
     out = move-out m l count r t s can-empty
 
     abbrev t₂ : Tables
-    t₂ = withBitmap (markRun t₁ (place r) count) (setBits (t .bitmap) (bitmapOf m i) j (bitsFor a count))
+    t₂ =
+        withOwners (withBitmap (markRun t₁ (place r) count) (setBits (t .bitmap) (bitmapOf m i) j (bitsFor a count)))
+        (fill (t .owners) r count device)
 
-    marked : RunMarked t₁ t₂ r count
+    marked : RunMarked t₁ t₂ r count device
     marked =
         let shaped = shape-known m t₁ (out .sound .shape) in
         let inside = in-memory in
-        run-marked t₁ (setBits (t .bitmap) (bitmapOf m i) j (bitsFor a count)) r count (ok .some) (rw (shaped .marks-length) inside) (rw (shaped .words-length) inside)
+        subst
+        (λ (os : List ℕ). RunMarked t₁ (withOwners (withBitmap (markRun t₁ (place r) count) (setBits (t .bitmap) (bitmapOf m i) j (bitsFor a count))) (fill os r count device)) r count device)
+        (out .owners)
+        (run-marked t₁ (setBits (t .bitmap) (bitmapOf m i) j (bitsFor a count)) r count device (ok .some) (rw (shaped .marks-length) inside)
+        (rw (shaped .words-length) inside) (rw (shaped .owners-length) inside))
 
     shape₂ : shapeRight m t₂ ≡ true
     shape₂ =
-        shape-lengths m t₁ t₂ (length-fill 5 (setPage t₁ (place r) (markOf count head) 0 .marks) (suc r) (count - 1) ∙ length-set (t₁ .marks) r (markOf count head))
-        (length-fill 0 (setPage t₁ (place r) (markOf count head) 0 .words) (suc r) (count - 1) ∙ length-set (t₁ .words) r 0)
-        (change-length setIn (t .bitmap) (bitmapOf m i) j (bitsFor a count) ∙ ap length (sym (out .bitmap))) ∙
+        shape-lengths m t₁ t₂
+        (record {
+          marks = length-fill 5 (setPage t₁ (place r) (markOf count head) 0 .marks) (suc r) (count - 1) ∙ length-set (t₁ .marks) r (markOf count head);
+          words = length-fill 0 (setPage t₁ (place r) (markOf count head) 0 .words) (suc r) (count - 1) ∙ length-set (t₁ .words) r 0;
+          bitmap = change-length setIn (t .bitmap) (bitmapOf m i) j (bitsFor a count) ∙ ap length (sym (out .bitmap));
+          owners = length-fill device (t .owners) r count ∙ ap length (sym (out .owners));
+        }) ∙
         out .sound .shape
 
     abbrev answered : ℕ
@@ -150,20 +164,19 @@ module _ (m : Record) (t : Tables) (l : Ledger) (s : Sound m t l) (i count : ℕ
         bits-run m t₁ t₂ (out .sound .shape) i j count (ok .declared) (ok .fits) ends setIn 1 setting
         (ap (λ (ws : List ℕ). setBits ws (bitmapOf m i) j (bitsFor a count)) (sym (out .bitmap))) (marked .outside .marks)
         (run-granted m t₁ t₂ (out .sound .shape) i j count (ok .declared) (ok .fits) ends (ok .some)
-        (now-granted m t₁ t₂ l (out .sound) r count (ok .some) in-memory (out .emptied) marked))
+        (now-granted m t₁ t₂ l (out .sound) r count device (ok .some) in-memory (out .emptied) marked))
         (out .sound .bits)
 
     abbrev after : Ledger
-    after = withGrants l (new ∷ l .grants) (λ f. if takes new (frame f) then 0 else l .deviceWord f) (l .granted + count) (l .released)
+    after = withGrant l new device
 
     abbrev entered : ℕ → Ledger
-    entered x =
-        withGrants l (grantOf (frame x) count ∷ l .grants) (λ f. if takes (grantOf (frame x) count) (frame f) then 0 else l .deviceWord f) (l .granted + count) (l .released)
+    entered x = withGrant l (grantOf (frame x) count) device
 
     granted : Sound m t₂ after
     granted =
         subst (λ (x : ℕ). Sound m t₂ (entered x)) first-frame
-        (grant-sound m t₁ t₂ l (out .sound) r count (ok .some) in-memory (out .emptied) marked shape₂
+        (grant-sound m t₁ t₂ l (out .sound) r count device (ok .some) in-memory (out .emptied) marked shape₂ (ok .known)
         (subst (λ (x : ℕ). GrantInArea m (grantOf (frame x) count)) (sym first-frame) lies-in) bits₂)
 
     granted-stays : (x : ℕ) → l .pinned x ≡ true → pageAt m t₂ x ≡ pageAt m t x
@@ -171,17 +184,17 @@ module _ (m : Record) (t : Tables) (l : Ledger) (s : Sound m t l) (i count : ℕ
         pin-stays m m t t₂ l after x (s .names x) (granted .names x) refl b b
         (λ p h e k.
         let unmoved = out .pins p k in
-        run-pins m t₁ t₂ l (out .sound) r count (ok .some) in-memory (out .emptied) marked p h (ap (hasKind 2) unmoved ∙ k)
+        run-pins m t₁ t₂ l (out .sound) r count device (ok .some) in-memory (out .emptied) marked p h (ap (hasKind 2) unmoved ∙ k)
         (ap isPage unmoved ∙ page-of x (markAt t (place p)) e) ∙
         unmoved)
 
-  pub grant-kept : (alignOrder : ℕ) → Kept (Call.Grant i count alignOrder) m t l (Device.grant m i count alignOrder t)
+  pub grant-kept : (alignOrder : ℕ) → Kept (Call.Grant i count alignOrder device) m t l (Device.grant m i count alignOrder device t)
   unfolding Device.grant takeRun
   grant-kept alignOrder =
-      checked-cases (Kept (Call.Grant i count alignOrder) m t l) m t _ _ refl (kept-refused (Call.Grant i count alignOrder) m t l s)
+      checked-cases (Kept (Call.Grant i count alignOrder device) m t l) m t _ _ refl (kept-refused (Call.Grant i count alignOrder device) m t l s)
       (λ passed.
       let j : ℕ = chosen m t i count alignOrder .0 in
-      let ok : Grantable m t i count j = grantable alignOrder (passed .1 .0) (passed .1 .1 .0) in
+      let ok : Grantable m t i count device j = grantable alignOrder (passed .1 .0) (passed .1 .1 .0) in
       let enough : movers t (placeOfBit m i (bit j)) count ≤ targets m t = ltb-false (targets m t) (movers t (placeOfBit m i (bit j)) count) (passed .1 .1 .1 .0) in
-      done-kept (Call.Grant i count alignOrder) m t (t₂ j ok enough) l (after j ok enough) (answered j ok enough) (movers t (placeOfBit m i (bit j)) count) refl
+      done-kept (Call.Grant i count alignOrder device) m t (t₂ j ok enough) l (after j ok enough) (answered j ok enough) (movers t (placeOfBit m i (bit j)) count) refl
       (granted j ok enough) (λ x a b. (b, granted-stays j ok enough x b)))

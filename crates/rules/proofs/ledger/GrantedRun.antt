@@ -18,16 +18,18 @@ use Rattle.frames.specs.declared.Area.{Area}
 use Rattle.frames.specs.Units.{frame, place}
 use Rattle.frames.specs.Marks.{markOf, hasKind, isGranted, head, later}
 use Rattle.frames.specs.Areas.{endOf, perBit, bitCount, bitsFor}
-use Rattle.frames.specs.Tables.{Tables, markAt, wordAt, setPage, withBitmap}
+use Rattle.frames.specs.Tables.{Tables, markAt, wordAt, ownerAt, setPage, fill, withBitmap, withOwners}
 use Rattle.rules.specs.declared.Record.{Record}
 use Rattle.rules.specs.Record.{frameAt}
 use Rattle.rules.specs.Shape.{shapeRight}
-use Rattle.rules.specs.DeviceCalls.{markRun}
-use Rattle.rules.specs.ledger.Ledger.{Grant, Ledger, grantOf, takes, sameGrant, grantsAt, isAmong, withGrants}
-use Rattle.rules.specs.steps.Invariant.{PlaceSound, GrantInArea, GrantSound, BitsSound, Sound}
+use Rattle.rules.specs.DeviceCalls.{badDevice, markRun}
+use Rattle.rules.specs.promises.Changes.{OnlyOwners}
+use Rattle.rules.specs.ledger.Ledger.{Grant, Ledger, grantOf, takes, sameGrant, grantsAt, isAmong, withGrant}
+use Rattle.rules.specs.steps.Invariant.{PlaceSound, OwnerSound, GrantInArea, GrantSound, BitsSound, Sound}
 use Rattle.rules.proofs.ledger.Marks.{isPage, mark-kind, free-page, free-granted, granted-page}
 use Rattle.frames.proofs.FillFacts.{getD-fill-in, getD-fill-below, getD-fill-above}
 use Rattle.rules.proofs.Divisions.{up-low}
+use Rattle.rules.proofs.promises.Changes.{filled-owners}
 use Rattle.rules.proofs.ledger.FrameRuns.{RunChange, in-run-or-not}
 use Rattle.rules.proofs.ledger.Names.{PagesKept, names-kept}
 use Rattle.rules.proofs.ledger.Grants.{one, takes-low, takes-high, low-takes, at-cons, among-cons, same-grant, many-run, head-granted, granted-mark, grant-moved}
@@ -46,17 +48,21 @@ run-inside a j count h =
 -- ---- the marked run
 
 -- what a grant of a free run leaves of its marks and words
-pub record RunMarked (t t′ : Tables) (r count : ℕ) : Type 0 where
+pub record RunMarked (t t′ : Tables) (r count device : ℕ) : Type 0 where
   pub outside : RunChange t t′ r count
   pub first : markAt t′ (place r) ≡ markOf count head
   pub rest : (q : ℕ) → r < q → q < r + count → markAt t′ (place q) ≡ markOf 0 later
   pub words : (q : ℕ) → r ≤ q → q < r + count → wordAt t′ (place q) ≡ 0
+  pub owners : OnlyOwners t t′ r count device
 
 pub run-marked :
-    (t : Tables) (bitmap : List ℕ) (r count : ℕ) →
+    (t : Tables) (bitmap : List ℕ) (r count device : ℕ) →
     1 ≤ count →
-    r + count ≤ length (t .marks) → r + count ≤ length (t .words) → RunMarked t (withBitmap (markRun t (place r) count) bitmap) r count
-run-marked t bitmap r count some a b =
+    r + count ≤ length (t .marks) →
+    r + count ≤ length (t .words) →
+    r + count ≤ length (t .owners) →
+    RunMarked t (withOwners (withBitmap (markRun t (place r) count) bitmap) (fill (t .owners) r count device)) r count device
+run-marked t bitmap r count device some a b c =
     record {
       outside = record {
         marks = λ q out.
@@ -70,6 +76,7 @@ run-marked t bitmap r count some a b =
             below-or-not q (r + count) (λ d. absurd (out c d))
             (λ d. getD-fill-above 0 words₁ (suc r) (count - 1) q (omega arith) ∙ getD-set-other (t .words) r q 0 0 (omega arith)));
       };
+      owners = filled-owners t (withBitmap (markRun t (place r) count) bitmap) r count device c;
       first = getD-fill-below 5 marks₁ (suc r) (count - 1) r (omega arith) ∙ getD-set-same (t .marks) r (markOf count head) 0 (omega arith);
       rest = λ q c d. getD-fill-in 5 marks₁ (suc r) (count - 1) q (omega arith) (omega arith) (rw length-set (omega arith));
       words = λ q c d.
@@ -87,12 +94,12 @@ run-marked t bitmap r count some a b =
 
 -- ---- a free run becomes a grant
 
-module _ (m : Record) (t t′ : Tables) (l : Ledger) (s : Sound m t l) (r count : ℕ) (some : 1 ≤ count) (inside : r + count ≤ m .memory .frames) (free-run : (q : ℕ) → r ≤ q → q < r + count → hasKind 0 (markAt t (place q)) ≡ true) (marked : RunMarked t t′ r count) where
+module _ (m : Record) (t t′ : Tables) (l : Ledger) (s : Sound m t l) (r count device : ℕ) (some : 1 ≤ count) (inside : r + count ≤ m .memory .frames) (free-run : (q : ℕ) → r ≤ q → q < r + count → hasKind 0 (markAt t (place q)) ≡ true) (marked : RunMarked t t′ r count device) where
   abbrev g : Grant
   g = grantOf (frame (m .memory .base .0 + r)) count
 
   abbrev l′ : Ledger
-  l′ = withGrants l (g ∷ l .grants) (λ f. if takes g (frame f) then 0 else l .deviceWord f) (l .granted + count) (l .released)
+  l′ = withGrant l g device
 
   pub now-granted : (q : ℕ) → r ≤ q → q < r + count → isGranted (markAt t′ (place q)) ≡ true
   now-granted q a b =
@@ -199,8 +206,27 @@ module _ (m : Record) (t t′ : Tables) (l : Ledger) (s : Sound m t l) (r count 
       let before = s .total in
       omega arith
 
-  pub grant-sound : shapeRight m t′ ≡ true → GrantInArea m g → BitsSound m t′ → Sound m t′ l′
-  grant-sound shape area bits =
+  new-owner : badDevice device ≡ false → (q : ℕ) → q < m .memory .frames → OwnerSound m l′ q (ownerAt t′ (place q)) (isGranted (markAt t′ (place q)))
+  new-owner good q h =
+      in-run-or-not q r count
+      (λ a b.
+      rw (marked .owners .run q a b)
+      (record {
+        owned = λ _. ap (λ (b : Bool). if b then device else l .device (m .memory .base .0 + q)) (sym (taken q a b));
+        known = λ _. good;
+        none = λ e. clash (isGranted (markAt t′ (place q))) (now-granted q a b) e;
+      }))
+      (λ o.
+      let old = s .owners q h in
+      rw (marked .outside .marks q o, marked .owners .others q o)
+      (record {
+        owned = λ e. old .owned e ∙ ap (λ (b : Bool). if b then device else l .device (m .memory .base .0 + q)) (sym (not-taken q o));
+        known = old .known;
+        none = old .none;
+      }))
+
+  pub grant-sound : shapeRight m t′ ≡ true → badDevice device ≡ false → GrantInArea m g → BitsSound m t′ → Sound m t′ l′
+  grant-sound shape good area bits =
       record {
         shape = shape;
         records = s .records;
@@ -210,6 +236,7 @@ module _ (m : Record) (t t′ : Tables) (l : Ledger) (s : Sound m t l) (r count 
         covered = all-covered;
         total = more-granted;
         bits = bits;
+        owners = new-owner good;
       }
 
   pub run-pins : (p : ℕ) → p < m .memory .frames → hasKind 2 (markAt t (place p)) ≡ true → isPage (markAt t (place p)) ≡ true → markAt t′ (place p) ≡ markAt t (place p)

@@ -41,10 +41,10 @@ module _ (m : Record) (t : Tables) (l : Ledger) (s : Sound m t l) where
   perform-kept (Call.Unpin name) text e = unpin-kept m t l s name
   perform-kept (Call.Store name word) text e = store-kept m t l s name word
   perform-kept (Call.Read name) text e = read-kept m t l s name
-  perform-kept (Call.Grant area count alignOrder) text e = grant-kept m t l s area count alignOrder
-  perform-kept (Call.Release area f count) text e = release-kept m t l s area f count
-  perform-kept (Call.DeviceStore f word) text e = device-store-kept m t l s f word
-  perform-kept (Call.DeviceRead f) text e = device-read-kept m t l s f
+  perform-kept (Call.Grant area count alignOrder device) text e = grant-kept m t l s area count device alignOrder
+  perform-kept (Call.Release area f count device) text e = release-kept m t l s area f count device
+  perform-kept (Call.DeviceStore f word device) text e = device-store-kept m t l s f word device
+  perform-kept (Call.DeviceRead f device) text e = device-read-kept m t l s f device
   perform-kept (Call.Declare request) text e = declare-kept m request t l s
   perform-kept (Call.Boot base frames blockOrder) text e = clash true refl e
 
@@ -70,7 +70,7 @@ same-kept s x sound same =
       stays = λ name a b. ap (λ (k : State). frameOfPage k name) same;
     }
 
-call-kept : (s : State) (c : Call) (text : List ℕ) → SoundState s → roleOf c .isBoot ≡ false → ItemKept s (itemWith c text own own own)
+call-kept : (s : State) (c : Call) (text : List ℕ) → SoundState s → roleOf c .isBoot ≡ false → ItemKept s (itemWith c text own own own own)
 unfolding next
 call-kept s c text sound e =
     let kept = perform-kept (s .machine) (s .own) (s .ledger) sound c text e in

@@ -1,17 +1,19 @@
 -- The theorem at one boot and one list: its hypotheses hold there, and what it says is computed. Assumes nothing.
 use Prim.Native.Nat.{ℕ}
-use mathlib.Core.Bool.{Bool, true, false, not}
+use mathlib.Core.Bool.{Bool, true, false, not, _&&_}
+use lib.Dec.{eqb}
 use mathlib.Core.List.{List, [], _∷_, _++_}
 use native.Mathlib.Omega.{arith}
 use mathlib.Core.Logic.{_≢_}
-use mathlib.Core.Path.{_≡_, refl, _∙_}
+use mathlib.Core.Path.{_≡_, refl, ap, subst, _∙_}
 use Rattle.answer.specs.Answers.{done, refused, refusedAt}
 use Rattle.search.specs.Search.{lowestFrom, lowest, some, every, howMany, highestFrom}
 use Rattle.bitmap.specs.Bits.{isClear, changeBit, changeBits}
 use Rattle.frames.specs.Units.{frame}
+use Rattle.rules.specs.Record.{placeOf}
 use Rattle.frames.specs.Areas.{inAreas, firstWord}
 use Rattle.frames.specs.Marks.{kindOf, markOf, pinned}
-use Rattle.frames.specs.Tables.{fill}
+use Rattle.frames.specs.Tables.{ownerAt, fill}
 use Rattle.text.specs.Bytes.{digitOf, unitOf, isNameByte}
 use Rattle.text.specs.Names.{nameLength, sameBytes}
 use Rattle.text.specs.Numbers.{digitsEnd, digitsValue, digits, number}
@@ -25,7 +27,7 @@ use Rattle.rules.specs.Declare.{alignmentFor, baseFor, sizeFor, limitFor
 use Rattle.rules.specs.Boot.{declareAll, bootRecord, boot}
 use Rattle.rules.specs.ledger.Ledger.{grantOf, grantsAt, without, update}
 use Rattle.rules.specs.ledger.Lists.{Item, State, isRefused, next, after, admitted, frameOfPage, lastPinFrame, SameList, same, otherWord, none, more, seenAnswers}
-use Rattle.rules.specs.ledger.Statement.{pageRead, frameRead, markOfPage, isGrantedPlace, isLiveFrame, outcomeOfBoot, startOfBoot, Demand3}
+use Rattle.rules.specs.ledger.Statement.{pageRead, frameRead, frameRelease, markOfPage, isGrantedPlace, isLiveFrame, deviceOf, outcomeOfBoot, startOfBoot, Demand3}
 use Rattle.rules.specs.ledger.Instance.{instanceBoot, placed, afterStores, instanceList, fiveAndSix}
 use Rattle.rules.proofs.ledger.Demand3.{theorem}
 
@@ -82,6 +84,7 @@ record Computed : Type 0 where
       refused 1 ∷
       refused 7 ∷
       refused 14 ∷
+      refused 15 ∷
       refused 9 ∷
       refused 3 ∷
       refused 1 ∷
@@ -92,11 +95,14 @@ record Computed : Type 0 where
       done 9 1 ∷
       done 12 0 ∷
       done 0 0 ∷
+      refused 15 ∷
       done 0 0 ∷
       refused 9 ∷
+      refused 15 ∷
       done 0 0 ∷
       done 5 77 ∷
       done 6 33 ∷
+      refused 15 ∷
       done 55 0 ∷
       []
   -- the ledger: pages 6 and 2, the pin of page 5 and the unpin of page 6, the one live grant, its word, and the totals
@@ -111,6 +117,7 @@ record Computed : Type 0 where
   pub one-grant : end .ledger .grants ≡ grantOf (frame 9) 1 ∷ []
   pub nine-live : isLiveFrame end (frame 9) ≡ true
   pub nine-word : end .ledger .deviceWord 9 ≡ 55
+  pub nine-device : deviceOf end (frame 9) ≡ 7
   pub thirteen-free : isLiveFrame end (frame 13) ≡ false
   pub granted : end .ledger .granted ≡ 3
   pub released : end .ledger .released ≡ 2
@@ -132,6 +139,7 @@ computed =
       one-grant = refl;
       nine-live = refl;
       nine-word = refl;
+      nine-device = refl;
       thirteen-free = refl;
       granted = refl;
       released = refl;
@@ -167,14 +175,26 @@ one-granted =
     let released = computed .released in
     omega arith
 
--- (4) the device reads its word at frame 9, and nothing at frame 13
-pub nine-read : frameRead end (frame 9) .answer .first ≡ 55
-nine-read = demand3-here .deviceWords .given (frame 9) (computed .nine-live) ∙ computed .nine-word
+-- (4) device 7 reads its word at frame 9, and device 8 does not; frame 13 has none
+pub nine-read : frameRead end (frame 9) 7 .answer .first ≡ 55
+nine-read =
+    subst (λ (device : ℕ). frameRead end (frame 9) device .answer .first ≡ 55) (computed .nine-device)
+    (demand3-here .deviceWords .given (frame 9) (computed .nine-live) ∙ computed .nine-word)
 
-pub thirteen-refused : not (isRefused (frameRead end (frame 13))) ≡ false
-thirteen-refused = demand3-here .deviceWords .accepted (frame 13) ∙ computed .thirteen-free
+pub nine-others : frameRead end (frame 9) 8 .answer .refusal ≡ 15
+nine-others = demand3-here .deviceWords .others (frame 9) 8 (computed .nine-live) (omega arith) (omega arith) (λ e. absurd (omega (arith, computed .nine-device)))
 
--- (5) other words to pages 6 and 5, after a boot on other tables: the same answers, but for the words that reads of these pages give
+pub thirteen-refused : not (isRefused (frameRead end (frame 13) 8)) ≡ false
+thirteen-refused = demand3-here .deviceWords .accepted (frame 13) 8 ∙ ap (λ (b : Bool). b && eqb 8 (deviceOf end (frame 13))) (computed .thirteen-free)
+
+-- (5) frame 9 is device 7's, and device 8 cannot release it
+pub nine-owner : ownerAt (end .own) (placeOf (end .machine) (frame 9)) ≡ 7
+nine-owner = demand3-here .owners .owner (frame 9) (computed .nine-live) ∙ computed .nine-device
+
+pub nine-kept : frameRelease end 0 (frame 9) 1 8 .left ≡ end .own
+nine-kept = demand3-here .owners .releases 0 (frame 9) 1 8 (λ _ e. absurd (omega (arith, computed .nine-device))) .2
+
+-- (6) other words to pages 6 and 5, after a boot on other tables: the same answers, but for the words that reads of these pages give
 same-first :
     (chosen : ℕ → Bool) (first : List Item) {xs ys : List Item} → SameList chosen xs ys → SameList chosen (first ++ xs) (first ++ ys)
 same-first chosen [] rest = rest
@@ -189,5 +209,5 @@ pub runs-agree :
     seenAnswers fiveAndSix (startOfBoot (instanceBoot 9)) (instanceList 77) ≡ seenAnswers fiveAndSix (startOfBoot (instanceBoot 3)) (instanceList 78)
 runs-agree =
     demand3-here .runs (instanceBoot 3)
-    (record { base = refl; frames = refl; blockOrder = refl; text = refl; lengths = record { marks = refl; words = refl; bitmap = refl } }) .agree fiveAndSix
+    (record { base = refl; frames = refl; blockOrder = refl; text = refl; lengths = record { marks = refl; words = refl; bitmap = refl; owners = refl } }) .agree fiveAndSix
     (instanceList 78) other-words

@@ -19,7 +19,9 @@ kept-as own was = refl
 kept-as (another table) was = refl
 
 own-kept : (x : Item) (was : Tables) → ownAfter x was (lentTo x was) ≡ was
-own-kept x was = λ i. tables (kept-as (x .marks) (was .marks) i) (kept-as (x .words) (was .words) i) (kept-as (x .bitmap) (was .bitmap) i)
+own-kept x was = λ i.
+    tables (kept-as (x .marks) (was .marks) i) (kept-as (x .words) (was .words) i) (kept-as (x .bitmap) (was .bitmap) i)
+    (kept-as (x .owners) (was .owners) i)
 
 pub refused-item : (s : State) (x : Item) → isRefused (outcomeIn s x) ≡ true → next s x ≡ s
 unfolding next
@@ -35,25 +37,27 @@ own-is own e = refl
 own-is (another table) e = absurd (true≢false (sym e))
 
 passing :
-    (P : Item → Type 0) (c : Call) (text : List ℕ) (marks words bitmap : Source) →
-    let x = itemWith c text marks words bitmap in
-    mayPass x ≡ true → (roleOf c .isBoot ≡ false → P (itemWith c text own own own)) → P x
-passing P c text marks words bitmap e passes =
+    (P : Item → Type 0) (c : Call) (text : List ℕ) (marks words bitmap owners : Source) →
+    let x = itemWith c text marks words bitmap owners in
+    mayPass x ≡ true → (roleOf c .isBoot ≡ false → P (itemWith c text own own own own)) → P x
+passing P c text marks words bitmap owners e passes =
     let last = not (roleOf c .isBoot) && isOwn marks && isOwn words in
-    let first = and-left last (isOwn bitmap) e in
+    let three = and-left (last && isOwn bitmap) (isOwn owners) e in
+    let first = and-left last (isOwn bitmap) three in
     let two = not (roleOf c .isBoot) && isOwn marks in
     let both = and-left two (isOwn words) first in
     rw (
       own-is marks (and-right (not (roleOf c .isBoot)) (isOwn marks) both),
       own-is words (and-right two (isOwn words) first),
-      own-is bitmap (and-right last (isOwn bitmap) e),
+      own-is bitmap (and-right last (isOwn bitmap) three),
+      own-is owners (and-right (last && isOwn bitmap) (isOwn owners) e),
     ) (passes (not-true (roleOf c .isBoot) (and-left (not (roleOf c .isBoot)) (isOwn marks) both)))
 
 -- what holds of an item that is refused, and of a call that is no boot and is lent the boot's own tables, holds of an admitted item
 pub item-cases :
     (P : Item → Type 0) (s : State) (x : Item) →
     (isRefused (outcomeIn s x) || mayPass x) ≡ true →
-    (isRefused (outcomeIn s x) ≡ true → P x) → (roleOf (x .call) .isBoot ≡ false → P (itemWith (x .call) (x .text) own own own)) → P x
+    (isRefused (outcomeIn s x) ≡ true → P x) → (roleOf (x .call) .isBoot ≡ false → P (itemWith (x .call) (x .text) own own own own)) → P x
 item-cases P s x e refused passes =
     by-cases (isRefused (outcomeIn s x)) refused
-    (λ n. passing P (x .call) (x .text) (x .marks) (x .words) (x .bitmap) (ap (λ (b : Bool). b || mayPass x) (sym n) ∙ e) passes)
+    (λ n. passing P (x .call) (x .text) (x .marks) (x .words) (x .bitmap) (x .owners) (ap (λ (b : Bool). b || mayPass x) (sym n) ∙ e) passes)

@@ -101,7 +101,9 @@ module _ (m : Record) (t : Tables) (l : Ledger) (s : Sound m t l) (p mark word n
     pub sound-page : Sound m t′ (withPage l name live isPinned entered)
     sound-page =
         record {
-          shape = shape-lengths m t t′ (length-set (t .marks) p mark) (length-set (t .words) p word) refl ∙ s .shape;
+          shape =
+              shape-lengths m t t′ (record { marks = length-set (t .marks) p mark; words = length-set (t .words) p word; bitmap = refl; owners = refl }) ∙
+              s .shape;
           records = s .records;
           places = λ q h.
               same-or-not q p
@@ -120,6 +122,9 @@ module _ (m : Record) (t : Tables) (l : Ledger) (s : Sound m t l) (p mark word n
           covered = λ q h. s .covered q h ∙ ap (λ (b : Bool). if b then 1 else 0) (sym (granted-same m t t′ unmarked q h));
           total = ap (λ (x : ℕ). x + l .released) (total-kept m t t′ unmarked) ∙ s .total;
           bits = bits-kept m t t′ (s .shape) unmarked refl (s .bits);
+          owners = λ q h.
+              let old = s .owners q h in
+              rw (granted-same m t t′ unmarked q h) (record { owned = old .owned; known = old .known; none = old .none });
         }
 
     -- a pinned page of another name stays

@@ -37,6 +37,7 @@ pub record Emptied (m : Record) (t t′ : Tables) (l : Ledger) (p d : ℕ) : Typ
   pub areas : (q : ℕ) → isOrdinary m (place q) ≡ false → (p ≤ q → q < p + d → ⊥) → markAt t′ (place q) ≡ markAt t (place q)
   pub pins : (q : ℕ) → hasKind pinned (markAt t (place q)) ≡ true → markAt t′ (place q) ≡ markAt t (place q)
   pub bitmap : t′ .bitmap ≡ t .bitmap
+  pub owners : t′ .owners ≡ t .owners
 
 -- one step of it, and what is left to do
 pub record Stepped (m : Record) (t t′ : Tables) (l : Ledger) (p d : ℕ) : Type 0 where
@@ -45,6 +46,7 @@ pub record Stepped (m : Record) (t t′ : Tables) (l : Ledger) (p d : ℕ) : Typ
   pub areas : (q : ℕ) → isOrdinary m (place q) ≡ false → q ≢ p → markAt t′ (place q) ≡ markAt t (place q)
   pub pins : (q : ℕ) → hasKind pinned (markAt t (place q)) ≡ true → markAt t′ (place q) ≡ markAt t (place q)
   pub bitmap : t′ .bitmap ≡ t .bitmap
+  pub owners : t′ .owners ≡ t .owners
   pub rest : CanEmpty m t′ (suc p) d
 
 module _ (m : Record) (l : Ledger) where
@@ -84,6 +86,7 @@ module _ (m : Record) (l : Ledger) where
           areas = λ q a b. refl;
           pins = λ q e. refl;
           bitmap = refl;
+          owners = refl;
           rest = record {
             inside = omega arith;
             leave = λ q a b. can .leave q (omega arith) (omega arith);
@@ -172,6 +175,7 @@ module _ (m : Record) (l : Ledger) where
                 (λ a. clash (hasKind pinned (markAt t (place k))) e (ap (λ (x : ℕ). hasKind pinned (markAt t (place x))) a ∙ rw (has-kind 1 (markAt t (place p)) moves)))
                 (λ a. clash (hasKind pinned (markAt t (place k))) e (ap (λ (x : ℕ). hasKind pinned (markAt t (place x))) a ∙ rw (has-kind 0 (markAt t (place target)) target-vacant)));
             bitmap = refl;
+            owners = refl;
             rest = record {
               inside = omega arith;
               leave = λ k a b.
@@ -196,6 +200,7 @@ module _ (m : Record) (l : Ledger) where
         areas = λ q a b. refl;
         pins = λ q e. refl;
         bitmap = refl;
+        owners = refl;
       }
   move-out (suc d) p t s can =
       let one = stepped t p d s can in
@@ -211,4 +216,5 @@ module _ (m : Record) (l : Ledger) where
             all .areas q a (λ u v. out (omega arith) (omega arith)) ∙ one .areas q a (λ e. out (omega arith) (omega arith));
         pins = λ q e. all .pins q (ap (hasKind pinned) (one .pins q e) ∙ e) ∙ one .pins q e;
         bitmap = all .bitmap ∙ one .bitmap;
+        owners = all .owners ∙ one .owners;
       }

@@ -136,7 +136,7 @@ module _ (m : Record) (t : Tables) (l : Ledger) (s : Sound m t l) (p q : ℕ) (p
       let a = update-back (l .live) name false true (sym live) in
       let b = update-back (l .pinned) name (l .pinned name) (l .pinned name) refl in
       let c = update-back (l .word) name (l .word name) (l .word name) refl in
-      λ i. record { live = a i; pinned = b i; word = c i; grants = l .grants; deviceWord = l .deviceWord; granted = l .granted; released = l .released }
+      λ i. record { live = a i; pinned = b i; word = c i; grants = l .grants; deviceWord = l .deviceWord; device = l .device; granted = l .granted; released = l .released }
 
   abbrev pub moved : Tables
   moved = setPage (setPage t (place q) mark word) (place p) 0 0
@@ -145,7 +145,7 @@ module _ (m : Record) (t : Tables) (l : Ledger) (s : Sound m t l) (p q : ℕ) (p
   same-tables =
       let a = set-comm (t .marks) p q 0 mark (λ e. apart (sym e)) in
       let b = set-comm (t .words) p q 0 word (λ e. apart (sym e)) in
-      λ i. tables (a i) (b i) (t .bitmap)
+      λ i. tables (a i) (b i) (t .bitmap) (t .owners)
 
   pub moved-sound : Sound m moved l
   moved-sound = subst (λ (k : Ledger). Sound m moved k) same-ledger (subst (λ (k : Tables). Sound m k l⁺) same-tables again)

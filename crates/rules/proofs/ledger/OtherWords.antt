@@ -1,5 +1,5 @@
 -- Two tables that differ only in the words of chosen pages, and what keeps them so. Assumes nothing.
---     Alike           the same marks and bitmap, and the same words but where a mark names a chosen page
+--     Alike           the same marks, bitmap and owners, and the same words but where a mark names a chosen page
 --     alike-words     of such tables one may take the second to be the first with other words
 --     set-alike, fill-alike, bitmap-alike    the same change in both
 use Prim.Native.Nat.{ℕ, zero, suc, _<_}
@@ -11,7 +11,7 @@ use lib.Seq.{getD-set-same, getD-set-other, set-out}
 use Rattle.search.proofs.Bools.{below-or-not}
 use Rattle.frames.specs.Units.{place}
 use Rattle.frames.specs.Marks.{fieldOf}
-use Rattle.frames.specs.Tables.{Tables, markAt, wordAt, setPage, fill, fillPages, withBitmap}
+use Rattle.frames.specs.Tables.{Tables, markAt, wordAt, setPage, fill, fillPages, withBitmap, withOwners}
 use Rattle.rules.proofs.EachCall.{otherWords}
 use Rattle.rules.proofs.ledger.Marks.{isPage}
 use Rattle.rules.proofs.ledger.Names.{same-or-not}
@@ -81,5 +81,7 @@ module _ (chosen : ℕ → Bool) where
   fill-alike (suc d) t words p mark word s =
       fill-alike d (setPage t (place p) mark word) (set words p word) (suc p) mark word (set-alike t words p mark word word s (λ _. refl))
 
-  pub bitmap-alike : (t : Tables) (words bitmap : List ℕ) → SameWords chosen t words → SameWords chosen (withBitmap t bitmap) words
-  bitmap-alike t words bitmap s = record { square = s .square; lengths = s .lengths; same = s .same }
+  -- another bitmap and other owners
+  pub others-alike :
+      (t : Tables) (words bitmap owners : List ℕ) → SameWords chosen t words → SameWords chosen (withOwners (withBitmap t bitmap) owners) words
+  others-alike t words bitmap owners s = record { square = s .square; lengths = s .lengths; same = s .same }

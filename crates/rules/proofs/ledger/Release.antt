@@ -14,19 +14,21 @@ use Rattle.frames.specs.declared.Frame.{Frame}
 use Rattle.frames.specs.Units.{place}
 use Rattle.frames.specs.Marks.{fieldOf, hasKind, isGranted, head}
 use Rattle.frames.specs.Areas.{isMultiple, endOf, perBit, bitOfFrame, bitsFor}
-use Rattle.frames.specs.Tables.{Tables, markAt, wordAt, fillPages, withBitmap}
+use Rattle.frames.specs.Tables.{Tables, markAt, wordAt, ownerAt, fill, fillPages, withBitmap, withOwners}
 use Rattle.rules.specs.declared.Call.the-variants as Call
 use Rattle.rules.specs.declared.Record.{Record}
 use Rattle.rules.specs.Record.{areaAt, placeOf, frameAt}
 use Rattle.rules.specs.Shape.{shapeRight}
 use Rattle.rules.specs.PageCalls.{pageAt}
 use Rattle.rules.specs.Outcomes.{outcome}
-use Rattle.rules.specs.DeviceCalls.{isUnknown, outsideArea, offBit, laterFrames, bitmapOf, freeRun}
+use Rattle.rules.specs.DeviceCalls.{isUnknown, badDevice, outsideArea, offBit, laterFrames, bitmapOf, freeRun}
 use Rattle.rules.specs.DeviceCalls as Device
 use Rattle.rules.proofs.Shapes.{shape-known}
 use Rattle.rules.specs.ledger.Ledger.{Grant, Ledger, grantOf, grantsAt, isAmong, without, withGrants}
-use Rattle.rules.specs.steps.Invariant.{PlaceSound, GrantSound, BitsSound, Sound}
+use Rattle.rules.specs.steps.Invariant.{PlaceSound, OwnerSound, GrantSound, BitsSound, Sound}
 use Rattle.rules.proofs.Checks.{checked-cases}
+use Rattle.rules.specs.promises.Changes.{OnlyOwners}
+use Rattle.rules.proofs.promises.Changes.{filled-owners}
 use Rattle.rules.proofs.ledger.Marks.{isPage, page-of, granted-page}
 use Rattle.frames.proofs.FillFacts.{length-fill, getD-fill-in}
 use Rattle.rules.proofs.ShapeFacts.{shape-lengths}
@@ -49,9 +51,9 @@ module _ (m : Record) (t : Tables) (l : Ledger) (s : Sound m t l) (i : ℕ) (f :
   abbrev rest-of : ℕ → ℕ
   rest-of q = grantsAt (without (l .grants) g) (frameAt m (place q))
 
-  module _ (t′ : Tables) (run : RunChange t t′ r count) (emptied : (q : ℕ) → r ≤ q → q < r + count → markAt t′ (place q) ≡ 0) (cleared : (q : ℕ) → r ≤ q → q < r + count → wordAt t′ (place q) ≡ 0) where
+  module _ (t′ : Tables) (run : RunChange t t′ r count) (emptied : (q : ℕ) → r ≤ q → q < r + count → markAt t′ (place q) ≡ 0) (cleared : (q : ℕ) → r ≤ q → q < r + count → wordAt t′ (place q) ≡ 0) (unowned : OnlyOwners t t′ r count 0) where
     abbrev l′ : Ledger
-    l′ = withGrants l (without (l .grants) g) (l .deviceWord) (l .granted) (l .released + count)
+    l′ = withGrants l (without (l .grants) g) (l .deviceWord) (l .device) (l .granted) (l .released + count)
 
     pages : PagesKept m t t′
     pages =
@@ -104,6 +106,15 @@ module _ (m : Record) (t : Tables) (l : Ledger) (s : Sound m t l) (i : ℕ) (f :
         let before = s .total in
         omega arith
 
+    freed-owner : (q : ℕ) → q < m .memory .frames → OwnerSound m l′ q (ownerAt t′ (place q)) (isGranted (markAt t′ (place q)))
+    freed-owner q h =
+        in-run-or-not q r count
+        (λ a b.
+        rw (emptied q a b, unowned .run q a b) (record { owned = λ e. clash false e refl; known = λ e. clash false e refl; none = λ _. refl }))
+        (λ o.
+        let old = s .owners q h in
+        rw (run .marks q o, unowned .others q o) (record { owned = old .owned; known = old .known; none = old .none }))
+
     freed : shapeRight m t′ ≡ true → BitsSound m t′ → Sound m t′ l′
     freed shape bits =
         record {
@@ -115,6 +126,7 @@ module _ (m : Record) (t : Tables) (l : Ledger) (s : Sound m t l) (i : ℕ) (f :
           covered = freed-covered;
           total = freed-total;
           bits = bits;
+          owners = freed-owner;
         }
 
     freed-stays : shapeRight m t′ ≡ true → BitsSound m t′ → (x : ℕ) → l .pinned x ≡ true → pageAt m t′ x ≡ pageAt m t x
@@ -123,14 +135,15 @@ module _ (m : Record) (t : Tables) (l : Ledger) (s : Sound m t l) (i : ℕ) (f :
         (λ p h e k. pages .forth p h (page-of x (markAt t (place p)) e))
 
 -- the checks of an accepted release
-module _ (m : Record) (t : Tables) (l : Ledger) (s : Sound m t l) (i : ℕ) (f : Frame) (count : ℕ) where
-  releasable :
-      (isUnknown (m .memory) i || eqb count 0 || outsideArea (areaAt m i) f count) ≡ false →
+module _ (m : Record) (t : Tables) (l : Ledger) (s : Sound m t l) (i : ℕ) (f : Frame) (count device : ℕ) where
+  pub releasable :
+      (isUnknown (m .memory) i || eqb count 0 || outsideArea (areaAt m i) f count || badDevice device) ≡ false →
       (offBit (areaAt m i) f || not (hasKind head (markAt t (placeOf m f)))) ≡ false →
       (not (eqb (fieldOf (markAt t (placeOf m f))) count) || not (laterFrames t (placeOf m f) count)) ≡ false → Releasable m t i f count
   releasable e₂ e₃ e₉ =
-      let known = or-left (isUnknown (m .memory) i || eqb count 0) (outsideArea (areaAt m i) f count) e₂ in
-      let outside = or-right (isUnknown (m .memory) i || eqb count 0) (outsideArea (areaAt m i) f count) e₂ in
+      let range = or-left (isUnknown (m .memory) i || eqb count 0 || outsideArea (areaAt m i) f count) (badDevice device) e₂ in
+      let known = or-left (isUnknown (m .memory) i || eqb count 0) (outsideArea (areaAt m i) f count) range in
+      let outside = or-right (isUnknown (m .memory) i || eqb count 0) (outsideArea (areaAt m i) f count) range in
       let declared : i < m .memory .declared = leb-false (m .memory .declared) i (or-left (isUnknown (m .memory) i) (eqb count 0) known) in
       let area = area-facts m t (s .shape) i declared in
       let above = ltb-false (f .0) (areaAt m i .base .0) (or-left (ltb (f .0) (areaAt m i .base .0)) (ltb (endOf (areaAt m i)) (f .0 + count)) outside) in
@@ -154,18 +167,27 @@ module _ (m : Record) (t : Tables) (l : Ledger) (s : Sound m t l) (i : ℕ) (f :
       }
 
   abbrev freedTables : Tables
-  freedTables = withBitmap (fillPages t (placeOf m f) count 0 0) (clearBits (t .bitmap) (bitmapOf m i) (bitOfFrame (areaAt m i) f .0) (bitsFor (areaAt m i) count))
+  freedTables =
+      withOwners
+      (withBitmap (fillPages t (placeOf m f) count 0 0)
+      (clearBits (t .bitmap) (bitmapOf m i) (bitOfFrame (areaAt m i) f .0) (bitsFor (areaAt m i) count)))
+      (fill (t .owners) (placeOf m f .0) count 0)
 
   freed-shape : shapeRight m freedTables ≡ true
   freed-shape =
-      shape-lengths m t freedTables (length-fill 0 (t .marks) (placeOf m f .0) count) (length-fill 0 (t .words) (placeOf m f .0) count)
-      (change-length clearIn (t .bitmap) (bitmapOf m i) (bitOfFrame (areaAt m i) f .0) (bitsFor (areaAt m i) count)) ∙
+      shape-lengths m t freedTables
+      (record {
+        marks = length-fill 0 (t .marks) (placeOf m f .0) count;
+        words = length-fill 0 (t .words) (placeOf m f .0) count;
+        bitmap = change-length clearIn (t .bitmap) (bitmapOf m i) (bitOfFrame (areaAt m i) f .0) (bitsFor (areaAt m i) count);
+        owners = length-fill 0 (t .owners) (placeOf m f .0) count;
+      }) ∙
       s .shape
 
   freed-run : RunChange t freedTables (placeOf m f .0) count
   freed-run = record { marks = fill-run t (placeOf m f .0) count 0 0 .marks; words = fill-run t (placeOf m f .0) count 0 0 .words }
 
-  freed-kept : Releasable m t i f count → Kept (Call.Release i f count) m t l (outcome m (done 0 0) freedTables)
+  freed-kept : Releasable m t i f count → Kept (Call.Release i f count device) m t l (outcome m (done 0 0) freedTables)
   freed-kept ok =
       let its = one-grant m t l s i f count ok in
       let inside : placeOf m f .0 + count ≤ m .memory .frames = its .inMemory in
@@ -176,14 +198,15 @@ module _ (m : Record) (t : Tables) (l : Ledger) (s : Sound m t l) (i : ℕ) (f :
       let cleared : (q : ℕ) → placeOf m f .0 ≤ q → q < placeOf m f .0 + count → wordAt freedTables (place q) ≡ 0 =
       λ q a b. getD-fill-in 0 (t .words) (placeOf m f .0) count q a b (rw (shaped .words-length) (omega arith))
       in
+      let unowned : OnlyOwners t freedTables (placeOf m f .0) count 0 = filled-owners t freedTables (placeOf m f .0) count 0 (rw (shaped .owners-length) inside) in
       let bits = freed-bits m t l s i f count ok its freedTables freed-run emptied refl in
-      done-kept (Call.Release i f count) m t freedTables l
-      (withGrants l (without (l .grants) (grantOf f count)) (l .deviceWord) (l .granted) (l .released + count)) 0 0 refl
-      (freed m t l s i f count ok its freedTables freed-run emptied cleared freed-shape bits)
-      (λ x a b. (b, freed-stays m t l s i f count ok its freedTables freed-run emptied cleared freed-shape bits x b))
+      done-kept (Call.Release i f count device) m t freedTables l
+      (withGrants l (without (l .grants) (grantOf f count)) (l .deviceWord) (l .device) (l .granted) (l .released + count)) 0 0 refl
+      (freed m t l s i f count ok its freedTables freed-run emptied cleared unowned freed-shape bits)
+      (λ x a b. (b, freed-stays m t l s i f count ok its freedTables freed-run emptied cleared unowned freed-shape bits x b))
 
-  pub release-kept : Kept (Call.Release i f count) m t l (Device.release m i f count t)
+  pub release-kept : Kept (Call.Release i f count device) m t l (Device.release m i f count device t)
   unfolding Device.release freeRun
   release-kept =
-      checked-cases (Kept (Call.Release i f count) m t l) m t _ _ refl (kept-refused (Call.Release i f count) m t l s)
-      (λ passed. freed-kept (releasable (passed .1 .0) (passed .1 .1 .0) (passed .1 .1 .1 .0)))
+      checked-cases (Kept (Call.Release i f count device) m t l) m t _ _ refl (kept-refused (Call.Release i f count device) m t l s)
+      (λ passed. freed-kept (releasable (passed .1 .0) (passed .1 .1 .0) (passed .1 .1 .1 .1 .0)))

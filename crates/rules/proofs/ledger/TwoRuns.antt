@@ -1,4 +1,4 @@
--- Two runs of the same calls, that differ only in words stored to chosen names, agree: part (5) of demand 3. Assumes nothing.
+-- Two runs of the same calls, that differ only in words stored to chosen names, agree: part (6) of demand 3. Assumes nothing.
 use Prim.Native.Nat.{ℕ}
 use mathlib.Core.Bool.{Bool, true, false, not, _||_}
 use mathlib.Core.List.{List, _∷_}
@@ -27,7 +27,7 @@ record ItemsAlike (hides : ℕ → Bool) (s s′ : State) (x y : Item) : Type 0 
 
 -- the item of the other run: another call with the same text that is lent the same
 abbrev withCall : Item → Call → Item
-withCall x d = itemWith d (x .text) (x .marks) (x .words) (x .bitmap)
+withCall x d = itemWith d (x .text) (x .marks) (x .words) (x .bitmap) (x .owners)
 
 -- ---- an item that is refused: nothing changes in either run
 
@@ -61,7 +61,7 @@ refused-items hides s s′ x {d} alike call e =
 
 own-items :
     (hides : ℕ → Bool) (s s′ : State) (c d : Call) (text : List ℕ) →
-    StatesAlike hides s s′ → SameCall hides c d → roleOf c .isBoot ≡ false → ItemsAlike hides s s′ (itemWith c text own own own) (itemWith d text own own own)
+    StatesAlike hides s s′ → SameCall hides c d → roleOf c .isBoot ≡ false → ItemsAlike hides s s′ (itemWith c text own own own own) (itemWith d text own own own own)
 unfolding next
 own-items hides s s′ c d text alike call e =
     let both = own-alike hides (s .machine) (s′ .machine) (s .own) (s′ .own) c d text call e (alike .machine) (alike .own) in
@@ -75,9 +75,9 @@ pub lists-agree :
     (s s′ : State) → StatesAlike hides s s′ → admitted s xs ≡ true → seenAnswers hides s xs ≡ seenAnswers hides s′ ys
 unfolding seenAnswers admitted
 lists-agree hides none s s′ alike ok = refl
-lists-agree hides (more {c = c} {d = d} {text = text} {marks = marks} {words = words} {bitmap = bitmap} {xs = xs} {ys = ys} call rest) s s′ alike ok =
-    let x = itemWith c text marks words bitmap in
-    let y = itemWith d text marks words bitmap in
+lists-agree hides (more {c = c} {d = d} {text = text} {marks = marks} {words = words} {bitmap = bitmap} {owners = owners} {xs = xs} {ys = ys} call rest) s s′ alike ok =
+    let x = itemWith c text marks words bitmap owners in
+    let y = itemWith d text marks words bitmap owners in
     let head = isRefused (outcomeIn s x) || mayPass x in
     let both =
     item-cases (λ z. SameCall hides (z .call) d → ItemsAlike hides s s′ z (withCall z d)) s x (and-left head (admitted (next s x) xs) ok)

@@ -29,11 +29,11 @@ use Rattle.rules.proofs.promises.Declares.{accepted-declare}
 
 module _ (t t′ : Tables) (s : SameLengths t t′) where
   pub zero-lengths : zeroTables t′ ≡ zeroTables t
-  zero-lengths = rw (s .marks, s .words, s .bitmap)
+  zero-lengths = rw (s .marks, s .words, s .bitmap, s .owners)
 
   pub record-lengths : (base frames blockOrder : ℕ) (text : List ℕ) → bootRecord base frames blockOrder text t′ ≡ bootRecord base frames blockOrder text t
   unfolding bootRecord lengthsRight
-  record-lengths base frames blockOrder text = rw (s .marks, s .words, s .bitmap)
+  record-lengths base frames blockOrder text = rw (s .marks, s .words, s .bitmap, s .owners)
 
 -- ---- what a reading gives, and that its refusal has a number
 
@@ -157,6 +157,7 @@ module _ (base frames blockOrder : ℕ) (text : List ℕ) (t : Tables) where
           marks = zeroed (t .marks);
           words = zeroed (t .words);
           bitmap = zeroed (t .bitmap);
+          owners = zeroed (t .owners);
           the-base = ap (λ (f : Frame). f .0) (g .base);
           the-frames = g .frames;
           the-order = g .order;

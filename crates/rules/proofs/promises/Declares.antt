@@ -152,5 +152,6 @@ accepted-declare m r t records =
         same-length = length-fill 0 (t .bitmap) from (wordCount a);
         marks = refl;
         words = refl;
+        owners = refl;
       },
     ))

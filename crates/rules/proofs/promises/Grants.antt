@@ -20,7 +20,7 @@ use Rattle.rules.specs.declared.Record.{Record}
 use Rattle.rules.specs.Record.{areaAt}
 use Rattle.rules.specs.Limits.{mostAlignOrder}
 use Rattle.rules.specs.Outcomes.{Outcome, here, there}
-use Rattle.rules.specs.DeviceCalls.{isUnknown, bitmapOf, placeOfBit, isCandidate, isGrantable, chosen, movers, targets, grant}
+use Rattle.rules.specs.DeviceCalls.{isUnknown, badDevice, bitmapOf, placeOfBit, isCandidate, isGrantable, chosen, movers, targets, grant}
 use Rattle.rules.proofs.Checks.{checked-first, checked-passed}
 use Rattle.rules.proofs.Divisions.{ceiling-some}
 use Rattle.rules.proofs.Says.{Says, says-is, says-true, says-leb, says-eqb, says-and, says-or, says-every}
@@ -63,11 +63,11 @@ module _ (m : Record) (t : Tables) (i count alignOrder : ℕ) where
   unfolding chosen
   first-known h = record { grantable = grantable-says first .fact (found-passes test bits h); lowest = before-first }
 
-  module _ (asked : Asked m t i count alignOrder) where
+  module _ {device : ℕ} (asked : Asked m t i count alignOrder device) where
     count-pos : 0 < count
     count-pos =
         below-or-not 0 count (λ h. h)
-        (λ h. absurd (eqb-false count 0 (or-right (isUnknown (m .memory) i) (eqb count 0) (or-left (isUnknown (m .memory) i || eqb count 0) (ltb mostAlignOrder alignOrder) (asked .arguments))) (omega arith)))
+        (λ h. absurd (eqb-false count 0 (or-right (isUnknown (m .memory) i) (eqb count 0) (or-left (isUnknown (m .memory) i || eqb count 0) (ltb mostAlignOrder alignOrder) (or-left (isUnknown (m .memory) i || eqb count 0 || ltb mostAlignOrder alignOrder) (badDevice device) (asked .arguments)))) (omega arith)))
 
     -- the one found is the only first
     first-is : (j : ℕ) → FirstGrantable m t i count alignOrder j → first ≡ j
@@ -83,7 +83,7 @@ module _ (m : Record) (t : Tables) (i count alignOrder : ℕ) where
     none-found none = below-or-not first bits (λ h. absurd (none first (first-known h .grantable))) (λ h. h)
 
     abbrev answer : Answer
-    answer = grant m i count alignOrder t .answer
+    answer = grant m i count alignOrder device t .answer
 
     answer-7 : bits ≤ first → answer ≡ refused 7
     unfolding grant
@@ -151,7 +151,7 @@ module _ (m : Record) (t : Tables) (i count alignOrder : ℕ) where
         let same : moved m t i count alignOrder first ≡ moved m t i count alignOrder (w .0) = ap (moved m t i count alignOrder) (first-is (w .0) (w .1)) in
         ap (λ (x : Answer). x .refusal) (answer-8 (first-in-range (w .0) (w .1)) (omega (arith, w .2)))
 
-    pub answers : GrantAnswers m t i count alignOrder
+    pub answers : GrantAnswers m t i count alignOrder device
     answers =
         record {
           accepted = λ f n. (accepted-known f n, accepted-test f n);
@@ -160,4 +160,4 @@ module _ (m : Record) (t : Tables) (i count alignOrder : ℕ) where
         }
 
 pub grant-is-first-fit : GrantIsFirstFit
-grant-is-first-fit m t i count alignOrder asked = answers m t i count alignOrder asked
+grant-is-first-fit m t i count alignOrder device asked = answers m t i count alignOrder asked

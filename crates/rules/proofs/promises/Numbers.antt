@@ -11,7 +11,7 @@ use Rattle.rules.specs.declared.Record.{Record}
 use Rattle.rules.specs.Outcomes.{Outcome, Check}
 use Rattle.rules.specs.PageCalls as Page
 use Rattle.rules.specs.DeviceCalls as Device
-use Rattle.rules.specs.promises.Numbers.{_answers_otherwise_, accepted, WrongShape, BadName, NotLive, OutsideMemory, NotGranted, RefusedExactly, RefusalHasZeros}
+use Rattle.rules.specs.promises.Numbers.{_answers_otherwise_, accepted, WrongShape, BadName, NotLive, BadFrame, NotGranted, NotOwner, RefusedExactly, RefusalHasZeros}
 use Rattle.rules.proofs.Checks.{checked-cases}
 use Rattle.rules.proofs.EachCall.{each-call}
 use Rattle.rules.proofs.Says.{says-not}
@@ -19,7 +19,7 @@ use Rattle.rules.proofs.promises.Ladder.{Ladder, rung, foot, exactly}
 use Rattle.rules.proofs.promises.Shapes.{wrong-shape}
 use Rattle.rules.proofs.promises.PageNumbers.{bad-name, page-is, put-movable, put-fixed}
 use Rattle.rules.proofs.promises.PlaceTests.{live}
-use Rattle.rules.proofs.promises.DeviceNumbers.{bad-grant, no-run, no-targets, bad-release, no-grant, disagrees, outside-memory, not-granted}
+use Rattle.rules.proofs.promises.DeviceNumbers.{bad-grant, no-run, no-targets, bad-release, no-grant, disagrees, bad-frame, not-granted, not-owner}
 use Rattle.rules.proofs.promises.DeclareNumbers.{declare-exactly}
 use Rattle.rules.proofs.promises.BootNumbers.{boot-answers-place}
 
@@ -33,11 +33,16 @@ looked-up m t name rest = rung (wrong-shape m t) (λ _. rung (bad-name name) (λ
 
 -- a frame that a device uses
 used :
-    (m : Record) (t : Tables) (f : Frame) {o : Outcome} →
+    (m : Record) (t : Tables) (f : Frame) (device : ℕ) {o : Outcome} →
     o .answer .refusal ≡ 0 →
-    Ladder m t o (Device.deviceChecks m f t)
-    (WrongShape m t answers 1 otherwise OutsideMemory m (f .0) answers 2 otherwise NotGranted m t (f .0) answers 3 otherwise accepted)
-used m t f done = rung (wrong-shape m t) (λ _. rung (outside-memory m t f) (λ _. rung (not-granted m t f) (λ _. foot done)))
+    Ladder m t o (Device.deviceChecks m f device t)
+    (WrongShape m t answers 1 otherwise
+    BadFrame m (f .0) device answers 2 otherwise
+    NotGranted m t (f .0) answers 3 otherwise
+    NotOwner m t (f .0) device answers 15 otherwise accepted)
+used m t f device done =
+    rung (wrong-shape m t)
+    (λ _. rung (bad-frame m t f device) (λ _. rung (not-granted m t f device) (λ _. rung (not-owner m t f device) (λ _. foot done))))
 
 pub refused-exactly : RefusedExactly
 unfolding Page.putPage Page.dropPage Page.changeKind Page.storePage Page.readPage Device.grant Device.release Device.deviceStore Device.deviceRead
@@ -50,18 +55,23 @@ refused-exactly (Call.Pin name) text m t = exactly (looked-up m t name (λ lives
 refused-exactly (Call.Unpin name) text m t = exactly (looked-up m t name (λ lives. rung (says-not (page-is m t name 2 lives)) (λ _. foot refl)))
 refused-exactly (Call.Store name word) text m t = exactly (looked-up m t name (λ lives. rung (page-is m t name 2 lives) (λ _. foot refl)))
 refused-exactly (Call.Read name) text m t = exactly (looked-up m t name (λ _. foot refl))
-refused-exactly (Call.Grant i count alignOrder) text m t =
+refused-exactly (Call.Grant i count alignOrder device) text m t =
     exactly
     (rung (wrong-shape m t)
     (λ _.
-    rung (bad-grant m t i count alignOrder)
-    (λ good. rung (no-run m t i count alignOrder good) (λ run. rung (no-targets m t i count alignOrder good run) (λ _. foot refl)))))
-refused-exactly (Call.Release i f count) text m t =
+    rung (bad-grant m t i count alignOrder device)
+    (λ good.
+    rung (no-run m t i count alignOrder device good) (λ run. rung (no-targets m t i count alignOrder device good run) (λ _. foot refl)))))
+refused-exactly (Call.Release i f count device) text m t =
     exactly
     (rung (wrong-shape m t)
-    (λ _. rung (bad-release m t i f count) (λ _. rung (no-grant m t i f count) (λ _. rung (disagrees m t i f count) (λ _. foot refl)))))
-refused-exactly (Call.DeviceStore f word) text m t = exactly (used m t f refl)
-refused-exactly (Call.DeviceRead f) text m t = exactly (used m t f refl)
+    (λ _.
+    rung (bad-release m t i f count device)
+    (λ _.
+    rung (no-grant m t i f count device)
+    (λ _. rung (not-owner m t f device) (λ _. rung (disagrees m t i f count device) (λ _. foot refl))))))
+refused-exactly (Call.DeviceStore f word device) text m t = exactly (used m t f device refl)
+refused-exactly (Call.DeviceRead f device) text m t = exactly (used m t f device refl)
 refused-exactly (Call.Declare r) text m t = declare-exactly m r t
 refused-exactly (Call.Boot base frames blockOrder) text m t = λ n.
     let exact = boot-answers-place base frames blockOrder text m t .0 in

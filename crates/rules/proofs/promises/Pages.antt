@@ -139,10 +139,10 @@ accepted-read m name t accepted =
 module _ (m : Record) (name word : ℕ) (t : Tables) where
   -- what an accepted store leaves: the page's word, and nothing else
   abbrev stored : Tables
-  stored = tables (t .marks) (set (t .words) (pageAt m t name .0) word) (t .bitmap)
+  stored = tables (t .marks) (set (t .words) (pageAt m t name .0) word) (t .bitmap) (t .owners)
 
   stored-is : setPage t (pageAt m t name) (markAt t (pageAt m t name)) word ≡ stored
-  stored-is = ap (λ (l : List ℕ). tables l (set (t .words) (pageAt m t name .0) word) (t .bitmap)) (set-getD (t .marks) (pageAt m t name .0) 0)
+  stored-is = ap (λ (l : List ℕ). tables l (set (t .words) (pageAt m t name .0) word) (t .bitmap) (t .owners)) (set-getD (t .marks) (pageAt m t name .0) 0)
 
   same-place : pageAt m stored name ≡ pageAt m t name
   unfolding pageAt

@@ -22,13 +22,13 @@ use Rattle.frames.specs.declared.Frame.{Frame}
 use Rattle.frames.specs.Units.{place, bit}
 use Rattle.frames.specs.Marks.{kindOf, hasKind, free, movable, head}
 use Rattle.frames.specs.Areas.{isMultiple, endOf, perBit, bitCount, frameOfBit, bitOfFrame, bitsFor}
-use Rattle.frames.specs.Tables.{Tables, markAt, wordAt}
+use Rattle.frames.specs.Tables.{Tables, markAt, wordAt, ownerAt}
 use Rattle.frames.proofs.FillFacts.{length-fill, getD-fill-below, getD-fill-above, getD-fill-in}
 use Rattle.rules.specs.declared.Record.{Record}
 use Rattle.rules.specs.Record.{areaAt, placeOf, isOrdinary}
 use Rattle.rules.specs.Shape.{shapeRight}
 use Rattle.rules.specs.Outcomes.{outcome, Passed}
-use Rattle.rules.specs.DeviceCalls.{isUnknown, bitmapOf, placeOfBit, outsideArea, offBit, freeRun, releaseChecks, release}
+use Rattle.rules.specs.DeviceCalls.{isUnknown, badDevice, bitmapOf, placeOfBit, outsideArea, offBit, freeRun, releaseChecks, release}
 use Rattle.rules.specs.promises.Changes.{Same, OnlyBits}
 use Rattle.rules.specs.promises.Grants.{Grantable}
 use Rattle.rules.specs.promises.Releases.{StillGrantable, ReleaseDoes, AcceptedRelease}
@@ -36,6 +36,7 @@ use Rattle.rules.proofs.Checks.{accepted-does}
 use Rattle.rules.proofs.Shapes.{Shape, shape-known}
 use Rattle.rules.proofs.AreaRight.{AreaFacts, area-known}
 use Rattle.rules.proofs.ledger.BitRuns.{run-fits}
+use Rattle.rules.proofs.promises.Changes.{filled-owners}
 use Rattle.rules.proofs.promises.Runs.{in-run-or-not, count-le, run-in-area}
 
 -- ---- what can be granted stays so
@@ -76,7 +77,7 @@ stays-grantable m t t′ shape bits frames i count alignOrder j known g =
     }
 
 -- ---- a release that has passed its checks
-module _ (m : Record) (i : ℕ) (f : Frame) (count : ℕ) (t : Tables) (passed : Passed (releaseChecks m i f count t)) where
+module _ (m : Record) (i : ℕ) (f : Frame) (count device : ℕ) (t : Tables) (passed : Passed (releaseChecks m i f count device t)) where
   abbrev area : Area
   area = areaAt m i
 
@@ -92,11 +93,14 @@ module _ (m : Record) (i : ℕ) (f : Frame) (count : ℕ) (t : Tables) (passed :
   abbrev unknown : Bool
   unknown = isUnknown (m .memory) i || eqb count 0
 
+  range : (unknown || outsideArea area f count) ≡ false
+  range = or-left (unknown || outsideArea area f count) (badDevice device) (passed .1 .0)
+
   known : i < m .memory .declared
-  known = leb-false (m .memory .declared) i (or-left (isUnknown (m .memory) i) (eqb count 0) (or-left unknown (outsideArea area f count) (passed .1 .0)))
+  known = leb-false (m .memory .declared) i (or-left (isUnknown (m .memory) i) (eqb count 0) (or-left unknown (outsideArea area f count) range))
 
   inside : outsideArea area f count ≡ false
-  inside = or-right unknown (outsideArea area f count) (passed .1 .0)
+  inside = or-right unknown (outsideArea area f count) range
 
   low : area .base .0 ≤ f .0
   low = ltb-false (f .0) (area .base .0) (or-left (ltb (f .0) (area .base .0)) (ltb (endOf area) (f .0 + count)) inside)
@@ -170,13 +174,14 @@ module _ (m : Record) (i : ℕ) (f : Frame) (count : ℕ) (t : Tables) (passed :
         leaves = λ q a b. inl (ap kindOf (freed-mark q (omega (arith, begins)) (omega arith)));
       }
 
-  does : ReleaseDoes m i f count t (outcome m (done 0 0) freed) p j
+  does : ReleaseDoes m i f count device t (outcome m (done 0 0) freed) p j
   unfolding freeRun
   does =
       record {
         at = is-at;
         on-bit = begins;
         in-memory = in-memory;
+        owner = eqb-true (ownerAt t (placeOf m f)) device (not-flips (eqb (ownerAt t (placeOf m f)) device) (passed .1 .1 .1 .0));
         answer = refl;
         machine = refl;
         lengths =
@@ -184,17 +189,19 @@ module _ (m : Record) (i : ℕ) (f : Frame) (count : ℕ) (t : Tables) (passed :
               marks = length-fill 0 (t .marks) p count;
               words = length-fill 0 (t .words) p count;
               bitmap = change-length clearIn (t .bitmap) (bitmapOf m i) j (bitsFor area count);
+              owners = simp (length-fill) refl;
             };
         marks = freed-mark;
         words = freed-word;
         kept = same-else;
         bits = only-bits;
+        owners = filled-owners t freed p count 0 (omega (arith, shape .owners-length, in-memory));
         again = can-grant;
         still = stays-grantable m t freed shape (stays-clear t freed (bitmapOf m i) j (bitsFor area count) only-bits) (λ q _. can-leave q);
       }
 
 pub accepted-release : AcceptedRelease
 unfolding release
-accepted-release m i f count t accepted =
-    accepted-does (λ o. (p : ℕ) × (j : ℕ) × ReleaseDoes m i f count t o p j) m t (releaseChecks m i f count t) _ refl accepted
-    (λ passed. (placeOf m f .0, bitOfFrame (areaAt m i) f .0, does m i f count t passed))
+accepted-release m i f count device t accepted =
+    accepted-does (λ o. (p : ℕ) × (j : ℕ) × ReleaseDoes m i f count device t o p j) m t (releaseChecks m i f count device t) _ refl accepted
+    (λ passed. (placeOf m f .0, bitOfFrame (areaAt m i) f .0, does m i f count device t passed))

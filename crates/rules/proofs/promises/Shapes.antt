@@ -32,8 +32,8 @@ memory-says base frames blockOrder =
 pub lengths-says : (frames : ℕ) (t : Tables) → Says (lengthsRight frames t) (RightLengths frames t)
 unfolding lengthsRight
 lengths-says frames t =
-    says-is (λ h. record { marks = h .0; words = h .1 }) (λ r. (r .marks, r .words))
-    (says-and (says-eqb (length (t .marks)) frames) (λ _. says-eqb (length (t .words)) frames))
+    says-is (λ h. record { marks = h .0 .0; words = h .0 .1; owners = h .1 }) (λ r. ((r .marks, r .words), r .owners))
+    (says-and (says-and (says-eqb (length (t .marks)) frames) (λ _. says-eqb (length (t .words)) frames)) (λ _. says-eqb (length (t .owners)) frames))
 
 area-says : (m : Record) (a : Area) → Says (areaRight (m .memory) a) (RightArea m a)
 unfolding areaRight

@@ -29,7 +29,7 @@ use Rattle.rules.specs.Limits.{mostAlignOrder}
 use Rattle.rules.specs.Shape.{shapeRight}
 use Rattle.rules.specs.Outcomes.{Outcome, outcome, Passed}
 use Rattle.rules.specs.PageCalls.{isFree, freeOrdinary}
-use Rattle.rules.specs.DeviceCalls.{isUnknown, bitmapOf, placeOfBit, chosen, movers, targets, moveOut, takeRun, grantChecks, grant, outsideArea, offBit, laterFrames, releaseChecks, release}
+use Rattle.rules.specs.DeviceCalls.{isUnknown, badDevice, notOwner, bitmapOf, placeOfBit, chosen, movers, targets, moveOut, takeRun, grantChecks, grant, outsideArea, offBit, laterFrames, releaseChecks, release}
 use Rattle.rules.proofs.Checks.{checked-passed, accepted-passed}
 use Rattle.rules.proofs.ShapeFacts.{shape-lengths}
 use Rattle.rules.proofs.Shapes.{Shape, shape-known}
@@ -40,6 +40,7 @@ use Rattle.rules.specs.promises.Releases.{ReleaseDoes, FreedRoom, FreedR
 use Rattle.rules.proofs.promises.Grants.{first-known}
 use Rattle.rules.proofs.promises.Releases.{Leaves, stays-clear, stays-grantable, accepted-release}
 use Rattle.rules.proofs.promises.Moves.{Ready, Moved, moved-all}
+use Rattle.rules.proofs.promises.Changes.{filled-owners}
 use Rattle.rules.proofs.promises.Runs.{in-run-or-not, frames-inside, words-inside, count-le, at-is, run-inside, run-in-area, marked-first, marked-rest, marked-word, marked-other}
 
 head-kind : (count : ℕ) → hasKind head (markOf count head) ≡ true
@@ -48,11 +49,13 @@ head-kind count = eq-eqb (kindOf (markOf count head)) head (omega arith)
 head-field : (count : ℕ) → fieldOf (markOf count head) ≡ count
 head-field count = omega arith
 
-grant-passes : (m : Record) (i count alignOrder : ℕ) (t : Tables) → grant m i count alignOrder t .answer .refusal ≡ 0 → Passed (grantChecks m i count alignOrder t)
+grant-passes :
+    (m : Record) (i count alignOrder device : ℕ) (t : Tables) →
+    grant m i count alignOrder device t .answer .refusal ≡ 0 → Passed (grantChecks m i count alignOrder device t)
 unfolding grant
-grant-passes m i count alignOrder t e = accepted-passed m t (grantChecks m i count alignOrder t) _ refl e
+grant-passes m i count alignOrder device t e = accepted-passed m t (grantChecks m i count alignOrder device t) _ refl e
 
-module _ (m : Record) (i count alignOrder : ℕ) (t : Tables) (passed : Passed (grantChecks m i count alignOrder t)) where
+module _ (m : Record) (i count alignOrder device : ℕ) (t : Tables) (passed : Passed (grantChecks m i count alignOrder device t)) where
   abbrev j : ℕ
   j = chosen m t i count alignOrder .0
 
@@ -70,7 +73,10 @@ module _ (m : Record) (i count alignOrder : ℕ) (t : Tables) (passed : Passed (
   shape = shape-known m t right
 
   arguments : (isUnknown (m .memory) i || eqb count 0 || ltb mostAlignOrder alignOrder) ≡ false
-  arguments = passed .1 .0
+  arguments = or-left (isUnknown (m .memory) i || eqb count 0 || ltb mostAlignOrder alignOrder) (badDevice device) (passed .1 .0)
+
+  good : badDevice device ≡ false
+  good = or-right (isUnknown (m .memory) i || eqb count 0 || ltb mostAlignOrder alignOrder) (badDevice device) (passed .1 .0)
 
   known : i < m .memory .declared
   known = leb-false (m .memory .declared) i (or-left (isUnknown (m .memory) i) (eqb count 0) (or-left (isUnknown (m .memory) i || eqb count 0) (ltb mostAlignOrder alignOrder) arguments))
@@ -116,7 +122,7 @@ module _ (m : Record) (i count alignOrder : ℕ) (t : Tables) (passed : Passed (
   words-room = omega (arith, ready .inside, out .sized .words)
 
   abbrev left : Tables
-  left = takeRun m t i count (bit j)
+  left = takeRun m t i count (bit j) device
 
   same-after : (q : ℕ) → (p ≤ q → q < p + count → ⊥) → (freeOrdinary m t (place q) ≡ true → movableIn t p count ≤ freeBelow m t q) → Same t left q
   unfolding movers takeRun
@@ -149,7 +155,7 @@ module _ (m : Record) (i count alignOrder : ℕ) (t : Tables) (passed : Passed (
   abbrev after : Outcome
   after = outcome m (done answered (movers t (place p) count)) left
 
-  grant-after : grant m i count alignOrder t ≡ after
+  grant-after : grant m i count alignOrder device t ≡ after
   unfolding grant
   grant-after = checked-passed m t _ _ passed
 
@@ -160,9 +166,10 @@ module _ (m : Record) (i count alignOrder : ℕ) (t : Tables) (passed : Passed (
         marks = simp (length-fill, length-set) (out .sized .marks ∙ sym (shape .marks-length));
         words = simp (length-fill, length-set) (out .sized .words ∙ sym (shape .words-length));
         bitmap = change-length _ (t .bitmap) (bitmapOf m i) j _;
+        owners = simp (length-fill) refl;
       }
 
-  does-after : GrantDoes m i count t after p j
+  does-after : GrantDoes m i count device t after p j
   unfolding movers takeRun
   does-after =
       record {
@@ -183,17 +190,18 @@ module _ (m : Record) (i count alignOrder : ℕ) (t : Tables) (passed : Passed (
               others = λ k n. clear-outside (t .bitmap) (bitmapOf m i) j (bitsFor area count) setting k n;
               words-before = λ w h. word-kept setIn (t .bitmap) (bitmapOf m i) j (bitsFor area count) w (λ k a b e. omega arith);
             };
+        owners = filled-owners t left p count device (omega (arith, shape .owners-length, ready .inside));
       }
 
-  does : GrantDoes m i count t (grant m i count alignOrder t) p j
-  does = subst (λ (o : Outcome). GrantDoes m i count t o p j) (sym grant-after) does-after
+  does : GrantDoes m i count device t (grant m i count alignOrder device t) p j
+  does = subst (λ (o : Outcome). GrantDoes m i count device t o p j) (sym grant-after) does-after
 
   -- ---- the release of what was granted is accepted
   abbrev f : Frame
   f = frame answered
 
   right-left : shapeRight m left ≡ true
-  right-left = shape-lengths m t left (same-lengths .marks) (same-lengths .words) (same-lengths .bitmap) ∙ right
+  right-left = shape-lengths m t left same-lengths ∙ right
 
   head-there : markAt left (place p) ≡ markOf count head
   head-there = does-after .first
@@ -202,11 +210,13 @@ module _ (m : Record) (i count alignOrder : ℕ) (t : Tables) (passed : Passed (
   unfolding laterFrames
   later-there = all-every _ (suc p) (count - 1) (λ q a b. ap (hasKind later) (does-after .rest q a (omega arith)))
 
-  inside-area : (isUnknown (m .memory) i || eqb count 0 || outsideArea area f count) ≡ false
+  inside-area : (isUnknown (m .memory) i || eqb count 0 || outsideArea area f count || badDevice device) ≡ false
   inside-area =
       let e : answered + count ≤ endOf area = omega (arith, frames-inside m t shape i count j known inside, count-le m t shape i count j known inside) in
-      or-neither _ _ (or-neither _ _ (lt-leb (m .memory .declared) i known) (ne-eqb count 0 (λ z. absurd (omega (arith, some)))))
-      (or-neither _ _ (le-ltb answered (area .base .0) (omega arith)) (le-ltb (endOf area) (answered + count) e))
+      or-neither _ _
+      (or-neither _ _ (or-neither _ _ (lt-leb (m .memory .declared) i known) (ne-eqb count 0 (λ z. absurd (omega (arith, some)))))
+      (or-neither _ _ (le-ltb answered (area .base .0) (omega arith)) (le-ltb (endOf area) (answered + count) e)))
+      good
 
   on-bit : (offBit area f || not (hasKind head (markAt left (place p)))) ≡ false
   on-bit =
@@ -217,18 +227,22 @@ module _ (m : Record) (i count alignOrder : ℕ) (t : Tables) (passed : Passed (
   agrees : (not (eqb (fieldOf (markAt left (place p))) count) || not (laterFrames left (place p) count)) ≡ false
   agrees = or-neither _ _ (ap not (eq-eqb _ count (ap fieldOf head-there ∙ head-field count))) (ap not later-there)
 
-  release-passes : Passed (releaseChecks m i f count left)
-  release-passes = (ap not right-left, (inside-area, (on-bit, (agrees, tt))))
+  -- the run's first frame is the device's
+  owned : notOwner m left f device ≡ false
+  owned = ap not (eq-eqb _ device (does-after .owners .run p (omega arith) (omega (arith, some))))
+
+  release-passes : Passed (releaseChecks m i f count device left)
+  release-passes = (ap not right-left, (inside-area, (on-bit, (owned, (agrees, tt)))))
 
   abbrev u : Outcome
-  u = release m i f count left
+  u = release m i f count device left
 
   release-accepted : u .answer .refusal ≡ 0
   unfolding release
   release-accepted = ap (λ (o : Outcome). o .answer .refusal) (checked-passed m left _ _ release-passes)
 
   -- ---- and what it leaves, by what the two calls promise
-  module _ (p′ j′ : ℕ) (r : ReleaseDoes m i f count left u p′ j′) where
+  module _ (p′ j′ : ℕ) (r : ReleaseDoes m i f count device left u p′ j′) where
     same-place : p′ ≡ p
     same-place = omega (arith, r .at, at-is m t shape i count j known inside)
 
@@ -274,19 +288,19 @@ module _ (m : Record) (i count alignOrder : ℕ) (t : Tables) (passed : Passed (
         aligned = subst (λ (k : ℕ). frameOfBit area (bit k) .0 % 2 ^ alignOrder ≡ 0) (sym same-bit) (grantable .candidate .aligned)
 
   freed-after : (k : ℕ) × FreedRoom m i count alignOrder t after u k
-  freed-after = let r = accepted-release m i f count left release-accepted in (r .1, freed-room (r .0) (r .1) (r .2))
+  freed-after = let r = accepted-release m i f count device left release-accepted in (r .1, freed-room (r .0) (r .1) (r .2))
 
   freed :
-      let o = grant m i count alignOrder t in
-      (k : ℕ) × FreedRoom m i count alignOrder t o (release (o .machine) i (frame (o .answer .first)) count (o .left)) k
+      let o = grant m i count alignOrder device t in
+      (k : ℕ) × FreedRoom m i count alignOrder t o (release (o .machine) i (frame (o .answer .first)) count device (o .left)) k
   freed =
-      subst (λ (o : Outcome). (k : ℕ) × FreedRoom m i count alignOrder t o (release (o .machine) i (frame (o .answer .first)) count (o .left)) k)
+      subst (λ (o : Outcome). (k : ℕ) × FreedRoom m i count alignOrder t o (release (o .machine) i (frame (o .answer .first)) count device (o .left)) k)
       (sym grant-after) freed-after
 
 pub accepted-grant : AcceptedGrant
-accepted-grant m i count alignOrder t e =
-    let passed = grant-passes m i count alignOrder t e in
-    (p m i count alignOrder t passed, j m i count alignOrder t passed, does m i count alignOrder t passed)
+accepted-grant m i count alignOrder device t e =
+    let passed = grant-passes m i count alignOrder device t e in
+    (p m i count alignOrder device t passed, j m i count alignOrder device t passed, does m i count alignOrder device t passed)
 
 pub freed-room-is-used : FreedRoomIsUsed
-freed-room-is-used m i count alignOrder t e = freed m i count alignOrder t (grant-passes m i count alignOrder t e)
+freed-room-is-used m i count alignOrder device t e = freed m i count alignOrder device t (grant-passes m i count alignOrder device t e)

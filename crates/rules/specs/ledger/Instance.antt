@@ -14,7 +14,7 @@ use Rattle.rules.specs.ledger.Statement.{Boot}
 
 -- tables of 12 frames and 3 bitmap words, filled with a number
 abbrev pub tablesOf : ℕ → Tables
-tablesOf v = tables (replicate 12 v) (replicate 12 v) (replicate 3 v)
+tablesOf v = tables (replicate 12 v) (replicate 12 v) (replicate 3 v) (replicate 12 v)
 
 -- frames 4 to 15, blocks of 4, and the text a=16K@32768: one area, frames 8 to 11
 abbrev pub instanceBoot : ℕ → Boot
@@ -65,7 +65,7 @@ abbrev pub stored : ℕ → List Item
 stored word =
     onOwn (Call.Store 6 word) ∷
     onOwn (Call.Store 5 word) ∷
-    item (Call.Store 6 word) own own empty ∷
+    item (Call.Store 6 word) own own empty own ∷
     []
 
 -- every call, refused on the boot's own tables; the grant is of frame 9, whose page has nowhere to go
@@ -78,51 +78,57 @@ refusedOnOwn =
     onOwn (Call.Unpin 6) ∷
     onOwn (Call.Store 7 1) ∷
     onOwn (Call.Read 7) ∷
-    onOwn (Call.Grant 0 1 0) ∷
-    onOwn (Call.Release 1 (frame 12) 1) ∷
-    onOwn (Call.DeviceStore (frame 12) 1) ∷
-    onOwn (Call.DeviceRead (frame 16)) ∷
+    onOwn (Call.Grant 0 1 0 7) ∷
+    onOwn (Call.Release 1 (frame 12) 1 7) ∷
+    onOwn (Call.DeviceStore (frame 12) 1 7) ∷
+    onOwn (Call.DeviceRead (frame 16) 7) ∷
     onOwn (Call.Declare noFrames) ∷
     onOwn (Call.Boot (frame 0) 12 2) ∷
     []
 
--- every call, refused where one table that it is lent, or two, or all three are others: by what those hold, or by their lengths
+-- every call, refused where one table that it is lent, or more, or all four are others: by what those hold, or by their lengths
 abbrev pub refusedOnOthers : List Item
 refusedOnOthers =
     -- marks of a fixed page 1 in every frame: no frame is free, and the name is live
-    item (Call.PutMovable 7) (perFrame 11) own own ∷
-    item (Call.PutFixed 1) (perFrame 11) own (perWord 0) ∷
+    item (Call.PutMovable 7) (perFrame 11) own own own ∷
+    item (Call.PutFixed 1) (perFrame 11) own (perWord 0) (perFrame 0) ∷
     -- free frames alone: no such page
-    item (Call.Drop 6) (perFrame 0) (perFrame 0) own ∷
-    item (Call.Unpin 5) (perFrame 0) (perFrame 0) (perWord 0) ∷
-    -- the own marks, with other words or another bitmap: the page is pinned, no words, no bitmap, bits that are set, no room for a third area's bits
-    item (Call.Pin 5) own (perFrame 1) own ∷
-    item (Call.Store 1 1) own empty own ∷
-    item (Call.Read 6) own own empty ∷
-    item (Call.Grant 0 1 0) own own (perWord 15) ∷
-    item (Call.Declare anyFrames) own (perFrame 1) (another (0 ∷ 0 ∷ [])) ∷
-    -- marks that begin a grant of two frames, each of them; no grant; tables with no entries
-    item (Call.Release 0 (frame 9) 1) (perFrame 20) own own ∷
-    item (Call.DeviceStore (frame 9) 1) (perFrame 0) own (perWord 0) ∷
-    item (Call.DeviceRead (frame 9)) empty empty empty ∷
+    item (Call.Drop 6) (perFrame 0) (perFrame 0) own own ∷
+    item (Call.Unpin 5) (perFrame 0) (perFrame 0) (perWord 0) (perFrame 0) ∷
+    -- the own marks, with other words, another bitmap or other owners: the page is pinned, no words, no owners, bits that are set, no
+    -- room for a third area's bits
+    item (Call.Pin 5) own (perFrame 1) own own ∷
+    item (Call.Store 1 1) own empty own own ∷
+    item (Call.Read 6) own own own empty ∷
+    item (Call.Grant 0 1 0 7) own own (perWord 15) own ∷
+    item (Call.Declare anyFrames) own (perFrame 1) (another (0 ∷ 0 ∷ [])) own ∷
+    -- marks that begin a grant of two frames, each of them, and another owner, or the right one; no grant; tables with no entries
+    item (Call.Release 0 (frame 9) 2 7) (perFrame 20) own own (perFrame 8) ∷
+    item (Call.Release 0 (frame 9) 1 7) (perFrame 20) own own (perFrame 7) ∷
+    item (Call.DeviceStore (frame 9) 1 7) (perFrame 0) own (perWord 0) own ∷
+    item (Call.DeviceRead (frame 9) 7) empty empty empty empty ∷
     -- a text that starts with ;
-    itemWith (Call.Boot (frame 4) 12 2) (59 ∷ []) (perFrame 7) own (perWord 7) ∷
+    itemWith (Call.Boot (frame 4) 12 2) (59 ∷ []) (perFrame 7) own (perWord 7) own ∷
     []
 
 -- page 2 leaves frame 5, so the grant now moves page 6 there from frame 9. The other area's grant is released again, once its two frames are counted
+-- and its own device asks
 abbrev pub granted : List Item
 granted =
     onOwn (Call.Drop 2) ∷
     onOwn (Call.Store 3 33) ∷
-    onOwn (Call.Grant 0 1 0) ∷
-    onOwn (Call.Grant 1 2 0) ∷
-    onOwn (Call.DeviceStore (frame 9) 55) ∷
-    onOwn (Call.DeviceStore (frame 13) 66) ∷
-    onOwn (Call.Release 1 (frame 12) 1) ∷
-    onOwn (Call.Release 1 (frame 12) 2) ∷
+    onOwn (Call.Grant 0 1 0 7) ∷
+    onOwn (Call.Grant 1 2 0 8) ∷
+    onOwn (Call.DeviceStore (frame 9) 55 7) ∷
+    onOwn (Call.DeviceStore (frame 9) 56 8) ∷
+    onOwn (Call.DeviceStore (frame 13) 66 8) ∷
+    onOwn (Call.Release 1 (frame 12) 1 8) ∷
+    onOwn (Call.Release 1 (frame 12) 2 7) ∷
+    onOwn (Call.Release 1 (frame 12) 2 8) ∷
     onOwn (Call.Read 6) ∷
     onOwn (Call.Read 3) ∷
-    onOwn (Call.DeviceRead (frame 9)) ∷
+    onOwn (Call.DeviceRead (frame 9) 8) ∷
+    onOwn (Call.DeviceRead (frame 9) 7) ∷
     []
 
 abbrev pub afterStores : List Item

@@ -35,13 +35,15 @@ unfoldable pub without : List Grant → Grant → List Grant
 without [] g = []
 without (h ∷ hs) g = if sameGrant h g then hs else h ∷ without hs g
 
--- what is live, pinned, last stored, granted and released. Pages go by name, the words of granted frames by physical frame
+-- what is live, pinned, last stored, granted and released, and to which device a frame was granted last (document 02, request (vii)). Pages go by
+-- name, the words and devices of granted frames by physical frame
 pub record Ledger : Type 0 where
   pub live : ℕ → Bool
   pub pinned : ℕ → Bool
   pub word : ℕ → ℕ
   pub grants : List Grant
   pub deviceWord : ℕ → ℕ
+  pub device : ℕ → ℕ
   pub granted : ℕ
   pub released : ℕ
 
@@ -54,6 +56,7 @@ emptyLedger =
       word = λ _. 0;
       grants = [];
       deviceWord = λ _. 0;
+      device = λ _. 0;
       granted = 0;
       released = 0;
     }
@@ -71,30 +74,36 @@ withPage l name live pinned word =
       word = update (l .word) name word;
       grants = l .grants;
       deviceWord = l .deviceWord;
+      device = l .device;
       granted = l .granted;
       released = l .released;
     }
 
-abbrev pub withGrants : Ledger → List Grant → (ℕ → ℕ) → ℕ → ℕ → Ledger
-withGrants l grants deviceWord granted released =
+abbrev pub withGrants : Ledger → List Grant → (ℕ → ℕ) → (ℕ → ℕ) → ℕ → ℕ → Ledger
+withGrants l grants deviceWord device granted released =
     record {
       live = l .live;
       pinned = l .pinned;
       word = l .word;
       grants = grants;
       deviceWord = deviceWord;
+      device = device;
       granted = granted;
       released = released;
     }
 
--- a live grant more, its frames' words 0; the total granted rises by its count
-abbrev pub withGrant : Ledger → Grant → Ledger
-withGrant l g =
-    withGrants l (g ∷ l .grants) (λ f. if takes g (frame f) then 0 else l .deviceWord f) (l .granted + g .count) (l .released)
+-- f with another value at the frames of a grant
+abbrev pub atFrames : Grant → ℕ → (ℕ → ℕ) → ℕ → ℕ
+atFrames g v f x = if takes g (frame x) then v else f x
+
+-- a live grant more, its frames' words 0, and they are the device's; the total granted rises by its count
+abbrev pub withGrant : Ledger → Grant → ℕ → Ledger
+withGrant l g device =
+    withGrants l (g ∷ l .grants) (atFrames g 0 (l .deviceWord)) (atFrames g device (l .device)) (l .granted + g .count) (l .released)
 
 -- the live grant ends; the total released rises by its count
 abbrev pub endGrant : Ledger → Grant → Ledger
-endGrant l g = withGrants l (without (l .grants) g) (l .deviceWord) (l .granted) (l .released + g .count)
+endGrant l g = withGrants l (without (l .grants) g) (l .deviceWord) (l .device) (l .granted) (l .released + g .count)
 
 abbrev pub withDeviceWord : Ledger → Frame → ℕ → Ledger
-withDeviceWord l f word = withGrants l (l .grants) (update (l .deviceWord) (f .0) word) (l .granted) (l .released)
+withDeviceWord l f word = withGrants l (l .grants) (update (l .deviceWord) (f .0) word) (l .device) (l .granted) (l .released)

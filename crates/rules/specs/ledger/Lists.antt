@@ -29,17 +29,19 @@ pub record Item : Type 0 where
   pub marks : Source
   pub words : Source
   pub bitmap : Source
+  pub owners : Source
 
-abbrev pub itemWith : Call → List ℕ → Source → Source → Source → Item
-itemWith c text marks words bitmap = record { call = c; text = text; marks = marks; words = words; bitmap = bitmap }
+abbrev pub itemWith : Call → List ℕ → Source → Source → Source → Source → Item
+itemWith c text marks words bitmap owners =
+    record { call = c; text = text; marks = marks; words = words; bitmap = bitmap; owners = owners }
 
 -- a call with no text
-abbrev pub item : Call → Source → Source → Source → Item
+abbrev pub item : Call → Source → Source → Source → Source → Item
 item c = itemWith c []
 
 -- one that is lent the boot's own tables
 abbrev pub onOwn : Call → Item
-onOwn c = item c own own own
+onOwn c = item c own own own own
 
 -- where a list stands: the record that the last call returned, the boot's tables as last left, and the ledger
 pub record State : Type 0 where
@@ -62,7 +64,9 @@ keptAs (another table) was left = was
 
 -- each item is given the record that the last one returned, and the tables that it is lent
 abbrev pub lentTo : Item → Tables → Tables
-lentTo x was = tables (lentAs (x .marks) (was .marks)) (lentAs (x .words) (was .words)) (lentAs (x .bitmap) (was .bitmap))
+lentTo x was =
+    tables (lentAs (x .marks) (was .marks)) (lentAs (x .words) (was .words)) (lentAs (x .bitmap) (was .bitmap))
+    (lentAs (x .owners) (was .owners))
 
 abbrev pub outcomeIn : State → Item → Outcome
 outcomeIn s x = perform (x .call) (x .text) (s .machine) (lentTo x (s .own))
@@ -71,7 +75,7 @@ outcomeIn s x = perform (x .call) (x .text) (s .machine) (lentTo x (s .own))
 abbrev pub ownAfter : Item → Tables → Tables → Tables
 ownAfter x was left =
     tables (keptAs (x .marks) (was .marks) (left .marks)) (keptAs (x .words) (was .words) (left .words))
-    (keptAs (x .bitmap) (was .bitmap) (left .bitmap))
+    (keptAs (x .bitmap) (was .bitmap) (left .bitmap)) (keptAs (x .owners) (was .owners) (left .owners))
 
 unfoldable pub next : State → Item → State
 next s x =
@@ -98,7 +102,7 @@ isOwn (another table) = false
 
 -- an item that may be accepted: no boot, and lent the boot's own tables
 abbrev pub mayPass : Item → Bool
-mayPass x = not (roleOf (x .call) .isBoot) && isOwn (x .marks) && isOwn (x .words) && isOwn (x .bitmap)
+mayPass x = not (roleOf (x .call) .isBoot) && isOwn (x .marks) && isOwn (x .words) && isOwn (x .bitmap) && isOwn (x .owners)
 
 -- each item is refused, or may be accepted
 unfoldable pub admitted : State → List Item → Bool
@@ -130,9 +134,10 @@ pub data SameCall (chosen : ℕ → Bool) : Call → Call → Type 0 where
 pub data SameList (chosen : ℕ → Bool) : List Item → List Item → Type 0 where
   none : SameList chosen [] []
   more :
-      {c d : Call} {text : List ℕ} {marks words bitmap : Source} {xs ys : List Item} →
+      {c d : Call} {text : List ℕ} {marks words bitmap owners : Source} {xs ys : List Item} →
       SameCall chosen c d →
-      SameList chosen xs ys → SameList chosen (itemWith c text marks words bitmap ∷ xs) (itemWith d text marks words bitmap ∷ ys)
+      SameList chosen xs ys →
+      SameList chosen (itemWith c text marks words bitmap owners ∷ xs) (itemWith d text marks words bitmap owners ∷ ys)
 
 -- an answer without the word that a read of a chosen name gives
 abbrev pub withoutWord : Answer → Answer

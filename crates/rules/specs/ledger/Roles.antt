@@ -49,12 +49,12 @@ roleOf (Call.Unpin name) = changes (λ _ l. withPage l name (l .live name) false
 -- store: the word is the page's
 roleOf (Call.Store name word) = changes (λ _ l. withPage l name (l .live name) (l .pinned name) word)
 roleOf (Call.Read name) = reading name
--- grant: frame and count are a live grant; release: the live grant with that frame and count ends
-roleOf (Call.Grant area count alignOrder) = changes (λ answered l. withGrant l (grantOf (frame answered) count))
-roleOf (Call.Release area first count) = changes (λ _ l. endGrant l (grantOf first count))
+-- grant: frame and count are a live grant, of the device; release: the live grant with that frame and count ends
+roleOf (Call.Grant area count alignOrder device) = changes (λ answered l. withGrant l (grantOf (frame answered) count) device)
+roleOf (Call.Release area first count device) = changes (λ _ l. endGrant l (grantOf first count))
 -- device store: the word is that frame's
-roleOf (Call.DeviceStore at word) = changes (λ _ l. withDeviceWord l at word)
-roleOf (Call.DeviceRead at) = keeps
+roleOf (Call.DeviceStore at word device) = changes (λ _ l. withDeviceWord l at word)
+roleOf (Call.DeviceRead at device) = keeps
 roleOf (Call.Declare request) = keeps
 roleOf (Call.Boot base frames blockOrder) = booting frames
 

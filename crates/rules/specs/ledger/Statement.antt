@@ -1,12 +1,13 @@
 -- Demand 3, as one theorem: what holds after every list of page calls, device calls, declares and refused boots that follows one accepted boot.
 -- It speaks of the calls by `perform`, the contracts' own definitions. The ledger is in Ledger.antt, and what each call is to it in
--- Roles.antt; the lists, what they leave and which are admitted are in Lists.antt. The theorem, at the end, has five parts, numbered here.
+-- Roles.antt; the lists, what they leave and which are admitted are in Lists.antt. The theorem, at the end, has six parts, numbered here.
 use Prim.Native.Nat.{ℕ, _+_, _≤_, _<_}
-use mathlib.Core.Bool.{Bool, true, false, not}
+use mathlib.Core.Bool.{Bool, true, false, not, _&&_}
 use mathlib.Core.List.{List, []}
 use mathlib.Core.Logic.{_≢_}
 use mathlib.Core.Path.{_≡_}
-use lib.Dec.{ltb}
+use lib.Dec.{ltb, eqb}
+use lib.ListN.{getD}
 use Rattle.search.specs.Search.{howMany}
 use Rattle.frames.specs.declared.Frame.{Frame}
 use Rattle.frames.specs.Units.{frame, place}
@@ -25,8 +26,14 @@ use Rattle.rules.specs.ledger.Lists.{Item, State, isRefused, startOf, af
 abbrev pub pageRead : State → ℕ → Outcome
 pageRead s name = perform (Call.Read name) [] (s .machine) (s .own)
 
-abbrev pub frameRead : State → Frame → Outcome
-frameRead s f = perform (Call.DeviceRead f) [] (s .machine) (s .own)
+abbrev pub frameRead : State → Frame → ℕ → Outcome
+frameRead s f device = perform (Call.DeviceRead f device) [] (s .machine) (s .own)
+
+abbrev pub frameStore : State → Frame → ℕ → ℕ → Outcome
+frameStore s f word device = perform (Call.DeviceStore f word device) [] (s .machine) (s .own)
+
+abbrev pub frameRelease : State → ℕ → Frame → ℕ → ℕ → Outcome
+frameRelease s area f count device = perform (Call.Release area f count device) [] (s .machine) (s .own)
 
 -- the mark at a table place is of kind 4 or 5; a live grant of the ledger has the frame
 abbrev pub isGrantedPlace : State → ℕ → Bool
@@ -34,6 +41,10 @@ isGrantedPlace s p = isGranted (markAt (s .own) (place p))
 
 abbrev pub isLiveFrame : State → Frame → Bool
 isLiveFrame s f = ltb 0 (grantsAt (s .ledger .grants) f)
+
+-- the device of the call that granted a frame of a live grant
+abbrev pub deviceOf : State → Frame → ℕ
+deviceOf s f = s .ledger .device (f .0)
 
 -- (1) a page read with any number as name is accepted just if the ledger says live, and then gives the ledger's word; its frame is where the
 -- name's one mark stands
@@ -74,13 +85,32 @@ pub record GrantsRight (s : State) : Type 0 where
   pub marked : (p : ℕ) → p < s .machine .memory .frames → isGrantedPlace s p ≡ isLiveFrame s (frameAt (s .machine) (place p))
   pub total : howMany (isGrantedPlace s) 0 (s .machine .memory .frames) + s .ledger .released ≡ s .ledger .granted
 
--- (4) each frame of a live grant holds the ledger's word for it; a device read is accepted just for these frames, and gives it
+-- (4) each frame of a live grant holds the ledger's word for it; a device read is accepted just for these frames and by the device that they were
+-- granted to, and gives it; every other device gets 15
 pub record DeviceWordsRight (s : State) : Type 0 where
   pub word : (f : Frame) → isLiveFrame s f ≡ true → wordAt (s .own) (placeOf (s .machine) f) ≡ s .ledger .deviceWord (f .0)
-  pub accepted : (f : Frame) → not (isRefused (frameRead s f)) ≡ isLiveFrame s f
-  pub given : (f : Frame) → isLiveFrame s f ≡ true → frameRead s f .answer .first ≡ s .ledger .deviceWord (f .0)
+  pub accepted : (f : Frame) (device : ℕ) → not (isRefused (frameRead s f device)) ≡ (isLiveFrame s f && eqb device (deviceOf s f))
+  pub given : (f : Frame) → isLiveFrame s f ≡ true → frameRead s f (deviceOf s f) .answer .first ≡ s .ledger .deviceWord (f .0)
+  pub others :
+      (f : Frame) (device : ℕ) →
+      isLiveFrame s f ≡ true → 1 ≤ device → device ≤ 65535 → device ≢ deviceOf s f → frameRead s f device .answer .refusal ≡ 15
 
--- (5) a run of the same calls agrees with this one in every answer, but for the words that reads of the chosen names give
+-- (5) the frames of a live grant, and no others, have an owner that is not 0, and it is the device of the call that granted them. A device store is
+-- accepted just for such a frame and by its owner; a release is refused, and changes nothing, but where the device is the owner of a live grant's
+-- frame
+pub record OwnersRight (s : State) : Type 0 where
+  pub device : (f : Frame) → isLiveFrame s f ≡ true → (1 ≤ deviceOf s f) × (deviceOf s f ≤ 65535)
+  pub owner : (f : Frame) → isLiveFrame s f ≡ true → getD (s .own .owners) (placeOf (s .machine) f .0) 0 ≡ deviceOf s f
+  pub none :
+      (p : ℕ) → p < s .machine .memory .frames → isLiveFrame s (frameAt (s .machine) (place p)) ≡ false → getD (s .own .owners) p 0 ≡ 0
+  pub stores : (f : Frame) (word device : ℕ) → not (isRefused (frameStore s f word device)) ≡ (isLiveFrame s f && eqb device (deviceOf s f))
+  pub releases :
+      (area : ℕ) (f : Frame) (count device : ℕ) →
+      (isLiveFrame s f ≡ true → device ≢ deviceOf s f) →
+      let o = frameRelease s area f count device in
+      (isRefused o ≡ true) × (o .machine ≡ s .machine) × (o .left ≡ s .own)
+
+-- (6) a run of the same calls agrees with this one in every answer, but for the words that reads of the chosen names give
 pub record RunsAgree (start start′ : State) (items : List Item) : Type 0 where
   pub agree :
       (chosen : ℕ → Bool) (items′ : List Item) → SameList chosen items items′ → seenAnswers chosen start items ≡ seenAnswers chosen start′ items′
@@ -114,9 +144,10 @@ pub record Demand3 (b : Boot) (items : List Item) : Type 0 where
   pub pins : PinsStay (startOfBoot b) items
   pub grants : GrantsRight (after (startOfBoot b) items)
   pub deviceWords : DeviceWordsRight (after (startOfBoot b) items)
+  pub owners : OwnersRight (after (startOfBoot b) items)
   pub runs : (c : Boot) → SameBoot b c → RunsAgree (startOfBoot b) (startOfBoot c) items
 
 -- the theorem: every accepted boot, whatever its numbers, text, record and tables, and every list after it that document 01 admits. The second
--- run of (5) needs no such hypotheses of its own
+-- run of (6) needs no such hypotheses of its own
 abbrev pub Theorem : Type 0
 Theorem = (b : Boot) (items : List Item) → isRefused (outcomeOfBoot b) ≡ false → admitted (startOfBoot b) items ≡ true → Demand3 b items

@@ -10,7 +10,7 @@ use Rattle.rules.specs.promises.Pages.{AcceptedPutMovable, AcceptedPutFi
 use Rattle.rules.specs.promises.Releases.{AcceptedRelease, FreedRoomIsUsed}
 use Rattle.rules.specs.promises.Rounded.{AmountsRound, LimitRounds}
 use Rattle.rules.specs.promises.Shapes.{ShapeIsRight}
-use Rattle.rules.specs.promises.Unchanged.{RefusalChangesNothing, TextIsBoots}
+use Rattle.rules.specs.promises.Unchanged.{RefusalChangesNothing, TextIsBoots, OwnersStay}
 
 pub record AllPromises : Type 0 where
   pub shape : ShapeIsRight
@@ -21,6 +21,7 @@ pub record AllPromises : Type 0 where
   pub boot-place : BootAnswersPlace
   pub refusal : RefusalChangesNothing
   pub text : TextIsBoots
+  pub owners : OwnersStay
   pub put-movable : AcceptedPutMovable
   pub put-fixed : AcceptedPutFixed
   pub live : LiveIfStands

@@ -56,6 +56,7 @@ module _ (base frames blockOrder : ℕ) (text : List ℕ) (t : Tables) where
     pub marks : Zeroed (t .marks) (o .left .marks)
     pub words : Zeroed (t .words) (o .left .words)
     pub bitmap : Zeroed (t .bitmap) (o .left .bitmap)
+    pub owners : Zeroed (t .owners) (o .left .owners)
     -- the record has what was given, and as many areas as the text has regions; its other area records, of 64, are zero
     pub the-base : o .machine .memory .base .0 ≡ base
     pub the-frames : o .machine .memory .frames ≡ frames

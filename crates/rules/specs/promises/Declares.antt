@@ -138,13 +138,14 @@ module _ (m : Record) (r : Request) (t : Tables) where
     pub same-base : o .machine .memory .base ≡ m .memory .base
     pub same-frames : o .machine .memory .frames ≡ m .memory .frames
     pub same-order : o .machine .memory .«block_order» ≡ m .memory .«block_order»
-    -- its words, which the bitmap has room for, are 0; every other word, and every mark and content word, is as it was
+    -- its words, which the bitmap has room for, are 0; every other word, and every mark, content word and owner, is as it was
     pub room : wordsNeeded m + wordCount a ≤ length (t .bitmap)
     pub new-bits : (w : ℕ) → wordsNeeded m ≤ w → w < wordsNeeded m + wordCount a → getD (o .left .bitmap) w 0 ≡ 0
     pub other-bits : (w : ℕ) → (wordsNeeded m ≤ w → w < wordsNeeded m + wordCount a → ⊥) → getD (o .left .bitmap) w 0 ≡ getD (t .bitmap) w 0
     pub same-length : length (o .left .bitmap) ≡ length (t .bitmap)
     pub marks : o .left .marks ≡ t .marks
     pub words : o .left .words ≡ t .words
+    pub owners : o .left .owners ≡ t .owners
 
 -- a record has the numbers of all area records, in use or not
 abbrev pub AcceptedDeclare : Type 0

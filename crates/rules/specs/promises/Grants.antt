@@ -16,7 +16,7 @@ use Rattle.rules.specs.Record.{areaAt}
 use Rattle.rules.specs.Limits.{mostAlignOrder}
 use Rattle.rules.specs.Shape.{shapeWrong}
 use Rattle.rules.specs.PageCalls.{freeOrdinary}
-use Rattle.rules.specs.DeviceCalls.{isUnknown, bitmapOf, placeOfBit, grant}
+use Rattle.rules.specs.DeviceCalls.{isUnknown, badDevice, bitmapOf, placeOfBit, grant}
 use Rattle.rules.specs.promises.Changes.{kindAt}
 
 -- how many of the d frames from place p on hold a movable page, of kind 1
@@ -57,20 +57,21 @@ module _ (m : Record) (t : Tables) (i count alignOrder : ℕ) where
   NoTargets = (j : ℕ) × FirstGrantable j × (freeBelow m t (m .memory .frames) < moved j)
 
   -- the checks before the search pass
-  pub record Asked : Type 0 where
+  pub record Asked (device : ℕ) : Type 0 where
     pub shape : shapeWrong m t ≡ false
-    pub arguments : (isUnknown (m .memory) i || eqb count 0 || ltb mostAlignOrder alignOrder) ≡ false
+    pub arguments : (isUnknown (m .memory) i || eqb count 0 || ltb mostAlignOrder alignOrder || badDevice device) ≡ false
 
-  pub record GrantAnswers : Type 0 where
+  pub record GrantAnswers (device : ℕ) : Type 0 where
     -- accepted with frame f and n moved just if the first grantable candidate has that frame and n movable frames, and n or more free ordinary
     -- frames are there
     pub accepted :
         (f n : ℕ) →
-        (grant m i count alignOrder t .answer ≡ done f n) ↔
+        (grant m i count alignOrder device t .answer ≡ done f n) ↔
         ((j : ℕ) × FirstGrantable j × (frameOfBit (areaAt m i) (bit j) .0 ≡ f) × (moved j ≡ n) × (n ≤ freeBelow m t (m .memory .frames)))
     -- 7 exactly if there is no run, 8 exactly if the pages of the first have nowhere to go
-    pub no-run : (grant m i count alignOrder t .answer .refusal ≡ 7) ↔ NoRun
-    pub no-target : (grant m i count alignOrder t .answer .refusal ≡ 8) ↔ NoTargets
+    pub no-run : (grant m i count alignOrder device t .answer .refusal ≡ 7) ↔ NoRun
+    pub no-target : (grant m i count alignOrder device t .answer .refusal ≡ 8) ↔ NoTargets
 
 abbrev pub GrantIsFirstFit : Type 0
-GrantIsFirstFit = (m : Record) (t : Tables) (i count alignOrder : ℕ) → Asked m t i count alignOrder → GrantAnswers m t i count alignOrder
+GrantIsFirstFit =
+    (m : Record) (t : Tables) (i count alignOrder device : ℕ) → Asked m t i count alignOrder device → GrantAnswers m t i count alignOrder device

@@ -13,7 +13,7 @@ use Rattle.rules.specs.Outcomes.{Outcome}
 use Rattle.rules.specs.PageCalls.{freeOrdinary}
 use Rattle.rules.specs.DeviceCalls.{bitmapOf, grant}
 use Rattle.rules.specs.promises.Grants.{movableIn, freeBelow}
-use Rattle.rules.specs.promises.Changes.{Same, SameLengths, OnlyBits}
+use Rattle.rules.specs.promises.Changes.{Same, SameLengths, OnlyBits, OnlyOwners}
 
 -- how many movable frames a run at place p has before place q
 abbrev pub moversBefore : Tables → ℕ → ℕ → ℕ
@@ -28,7 +28,7 @@ pub record MovesTo (m : Record) (t t′ : Tables) (p q r : ℕ) : Type 0 where
   pub word : wordAt t′ (place r) ≡ wordAt t (place q)
 
 -- what a grant of the run of `count` frames at place p, whose first bit is j, leaves of the tables t
-module _ (m : Record) (i count : ℕ) (t : Tables) where
+module _ (m : Record) (i count device : ℕ) (t : Tables) where
   pub record GrantDoes (o : Outcome) (p j : ℕ) : Type 0 where
     pub answer : o .answer ≡ done (m .memory .base .0 + p) (movableIn t p count)
     pub on-bit : frameOfBit (areaAt m i) (bit j) .0 ≡ m .memory .base .0 + p
@@ -49,9 +49,11 @@ module _ (m : Record) (i count : ℕ) (t : Tables) where
     pub spare : (q : ℕ) → p + count ≤ q → q < p + bitsFor (areaAt m i) count * perBit (areaAt m i) → Same t (o .left) q
     -- the run's bits are set, and no others change
     pub bits : OnlyBits t (o .left) (bitmapOf m i) j (bitsFor (areaAt m i) count) false
+    -- the run's frames are the device's; a page that moves leaves both frames' owners as they were
+    pub owners : OnlyOwners t (o .left) p count device
 
 abbrev pub AcceptedGrant : Type 0
 AcceptedGrant =
-    (m : Record) (i count alignOrder : ℕ) (t : Tables) →
-    let o = grant m i count alignOrder t in
-    o .answer .refusal ≡ 0 → (p : ℕ) × (j : ℕ) × GrantDoes m i count t o p j
+    (m : Record) (i count alignOrder device : ℕ) (t : Tables) →
+    let o = grant m i count alignOrder device t in
+    o .answer .refusal ≡ 0 → (p : ℕ) × (j : ℕ) × GrantDoes m i count device t o p j

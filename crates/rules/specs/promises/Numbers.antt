@@ -4,7 +4,7 @@ use Prim.Native.Nat.{ℕ, suc, _+_, _-_, _*_, _/_, _%_, _^_, _≤_, _<_}
 use mathlib.Core.Path.{_≡_}
 use mathlib.Core.Logic.{_⊎_, _↔_, _≢_}
 use mathlib.Core.List.{List, [], _∷_}
-use lib.ListN.{length}
+use lib.ListN.{length, getD}
 use Rattle.frames.specs.declared.Frame.{Frame}
 use Rattle.frames.specs.Areas.{firstWord}
 use Rattle.frames.specs.Tables.{Tables}
@@ -58,14 +58,19 @@ PageIsNot kind m t name = PageIs kind m t name → ⊥
 abbrev pub NoneFree : Record → Tables → Type 0
 NoneFree m t = (p : ℕ) → p < m .memory .frames → kindAt t p ≡ 0 → ⊥
 
--- an unknown area, count 0, or an alignment order above 16
-abbrev pub BadGrant : Record → ℕ → ℕ → ℕ → Type 0
-BadGrant m i count alignOrder = (m .memory .declared ≤ i) ⊎ (count ≡ 0) ⊎ (16 < alignOrder)
+-- devices are 1 to 65,535
+abbrev pub BadDevice : ℕ → Type 0
+BadDevice device = (device < 1) ⊎ (65535 < device)
 
--- an unknown area, count 0, or a range not inside the area
-abbrev pub BadRelease : Record → ℕ → ℕ → ℕ → Type 0
-BadRelease m i f count =
-    (m .memory .declared ≤ i) ⊎ (count ≡ 0) ⊎ (f < areaAt m i .base .0) ⊎ (areaAt m i .base .0 + areaAt m i .count < f + count)
+-- an unknown area, count 0, an alignment order above 16, or no device's number
+abbrev pub BadGrant : Record → ℕ → ℕ → ℕ → ℕ → Type 0
+BadGrant m i count alignOrder device = (m .memory .declared ≤ i) ⊎ (count ≡ 0) ⊎ (16 < alignOrder) ⊎ BadDevice device
+
+-- an unknown area, count 0, a range not inside the area, or no device's number
+abbrev pub BadRelease : Record → ℕ → ℕ → ℕ → ℕ → Type 0
+BadRelease m i f count device =
+    (m .memory .declared ≤ i) ⊎
+    (count ≡ 0) ⊎ ((f < areaAt m i .base .0) ⊎ (areaAt m i .base .0 + areaAt m i .count < f + count)) ⊎ BadDevice device
 
 -- the frame is off a bit boundary, or not the first of a grant
 abbrev pub NoGrant : Record → Tables → ℕ → ℕ → Type 0
@@ -77,8 +82,13 @@ Disagrees m t f count =
     (fieldAt t (f - m .memory .base .0) ≢ count) ⊎
     ((p : ℕ) × (f - m .memory .base .0 < p) × (p < f - m .memory .base .0 + count) × (kindAt t p ≢ 5))
 
-abbrev pub OutsideMemory : Record → ℕ → Type 0
-OutsideMemory m f = (f < m .memory .base .0) ⊎ (m .memory .base .0 + m .memory .frames ≤ f)
+-- the device is not the owner of the frame
+abbrev pub NotOwner : Record → Tables → ℕ → ℕ → Type 0
+NotOwner m t f device = getD (t .owners) (f - m .memory .base .0) 0 ≢ device
+
+-- a frame outside memory, or no device's number
+abbrev pub BadFrame : Record → ℕ → ℕ → Type 0
+BadFrame m f device = ((f < m .memory .base .0) ⊎ (m .memory .base .0 + m .memory .frames ≤ f)) ⊎ BadDevice device
 
 abbrev pub NotGranted : Record → Tables → ℕ → Type 0
 NotGranted m t f = (kindAt t (f - m .memory .base .0) ≡ 4) ⊎ (kindAt t (f - m .memory .base .0) ≡ 5) → ⊥
@@ -125,7 +135,7 @@ RegionsAnswer (r ∷ rs) i m t n at =
     let o = Declare.declare m (regionRequest r) t in
     RegionsAnswer rs (suc i) (o .machine) (o .left) n at)
 
--- 1 at place 0 if P, n, b or the length of marks or words is wrong; then the text's own refusal and place; then the regions', which are declared
+-- 1 at place 0 if P, n, b or the length of marks, words or owners is wrong; then the text's own refusal and place; then the regions', which are declared
 -- as if every frame were free
 abbrev pub BootAnswers : ℕ → ℕ → ℕ → List ℕ → Tables → ℕ → ℕ → Type 0
 BootAnswers base frames blockOrder text t n at =
@@ -170,24 +180,27 @@ refusalOf (Call.Read name) text m t =
     WrongShape m t answers 1 otherwise
     BadName name answers 2 otherwise
     NotLive m t name answers 3 otherwise accepted
-refusalOf (Call.Grant i count alignOrder) text m t =
+refusalOf (Call.Grant i count alignOrder device) text m t =
     WrongShape m t answers 1 otherwise
-    BadGrant m i count alignOrder answers 2 otherwise
+    BadGrant m i count alignOrder device answers 2 otherwise
     NoRun m t i count alignOrder answers 7 otherwise
     NoTargets m t i count alignOrder answers 8 otherwise accepted
-refusalOf (Call.Release i f count) text m t =
+refusalOf (Call.Release i f count device) text m t =
     WrongShape m t answers 1 otherwise
-    BadRelease m i (f .0) count answers 2 otherwise
+    BadRelease m i (f .0) count device answers 2 otherwise
     NoGrant m t i (f .0) answers 3 otherwise
+    NotOwner m t (f .0) device answers 15 otherwise
     Disagrees m t (f .0) count answers 9 otherwise accepted
-refusalOf (Call.DeviceStore f word) text m t =
+refusalOf (Call.DeviceStore f word device) text m t =
     WrongShape m t answers 1 otherwise
-    OutsideMemory m (f .0) answers 2 otherwise
-    NotGranted m t (f .0) answers 3 otherwise accepted
-refusalOf (Call.DeviceRead f) text m t =
+    BadFrame m (f .0) device answers 2 otherwise
+    NotGranted m t (f .0) answers 3 otherwise
+    NotOwner m t (f .0) device answers 15 otherwise accepted
+refusalOf (Call.DeviceRead f device) text m t =
     WrongShape m t answers 1 otherwise
-    OutsideMemory m (f .0) answers 2 otherwise
-    NotGranted m t (f .0) answers 3 otherwise accepted
+    BadFrame m (f .0) device answers 2 otherwise
+    NotGranted m t (f .0) answers 3 otherwise
+    NotOwner m t (f .0) device answers 15 otherwise accepted
 refusalOf (Call.Declare r) text m t = declareRefusal r m t
 refusalOf (Call.Boot base frames blockOrder) text m t = λ n. (at : ℕ) × BootAnswers (base .0) frames blockOrder text t n at
 

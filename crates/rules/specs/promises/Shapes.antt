@@ -20,10 +20,11 @@ pub record RightMemory (base frames blockOrder : ℕ) : Type 0 where
   pub end-most : base + frames ≤ 2 ^ 36
   pub order-most : blockOrder ≤ 10
 
--- marks and words have n entries
+-- marks, words and owners have n entries
 pub record RightLengths (frames : ℕ) (t : Tables) : Type 0 where
   pub marks : length (t .marks) ≡ frames
   pub words : length (t .words) ≡ frames
+  pub owners : length (t .owners) ≡ frames
 
 -- count at least 1, k at most b, first and count multiples of 2^b, in memory
 pub record RightArea (m : Record) (a : Area) : Type 0 where

@@ -10,13 +10,13 @@ use Rattle.bitmap.specs.Bits.{isClear}
 use Rattle.frames.specs.Units.{place, bit}
 use Rattle.frames.specs.Marks.{kindOf, markOf, hasKind, isPageOf, isGranted, free, pinned, fixed, head, later}
 use Rattle.frames.specs.Areas.{isMultiple, endOf, perBit, bitCount}
-use Rattle.frames.specs.Tables.{Tables, markAt, wordAt}
+use Rattle.frames.specs.Tables.{Tables, markAt, wordAt, ownerAt}
 use Rattle.rules.specs.declared.Record.{Record}
 use Rattle.rules.specs.Record.{areaAt, placeOf, frameAt, isOrdinary, endFrame}
 use Rattle.rules.specs.Limits.{mostAreaNumbers}
 use Rattle.rules.specs.Shape.{shapeRight}
 use Rattle.rules.specs.PageCalls.{badName}
-use Rattle.rules.specs.DeviceCalls.{bitmapOf, placeOfBit}
+use Rattle.rules.specs.DeviceCalls.{badDevice, bitmapOf, placeOfBit}
 use Rattle.rules.specs.ledger.Ledger.{Grant, Ledger, grantsAt, isAmong}
 
 -- the mark and the word at place p: no kind 6 or 7, nothing in a free frame, no fixed page in an area, the ledger's word in a granted frame
@@ -68,6 +68,12 @@ pub record BitsSound (m : Record) (t : Tables) : Type 0 where
   pub clear :
       (i j : ℕ) → i < m .memory .declared → j < bitCount (areaAt m i) → isClear (t .bitmap) (bitmapOf m i) j ≡ not (hasGranted m t i j)
 
+-- the owner at place p: the device that a granted frame was granted to, and 0 where it is not granted
+pub record OwnerSound (m : Record) (l : Ledger) (p owner : ℕ) (granted : Bool) : Type 0 where
+  pub owned : granted ≡ true → owner ≡ l .device (m .memory .base .0 + p)
+  pub known : granted ≡ true → badDevice owner ≡ false
+  pub none : granted ≡ false → owner ≡ 0
+
 pub record Sound (m : Record) (t : Tables) (l : Ledger) : Type 0 where
   pub shape : shapeRight m t ≡ true
   pub records : length (m .areas) ≡ mostAreaNumbers
@@ -78,3 +84,4 @@ pub record Sound (m : Record) (t : Tables) (l : Ledger) : Type 0 where
   pub covered : (p : ℕ) → p < m .memory .frames → grantsAt (l .grants) (frameAt m (place p)) ≡ (if isGranted (markAt t (place p)) then 1 else 0)
   pub total : howMany (λ p. isGranted (markAt t (place p))) 0 (m .memory .frames) + l .released ≡ l .granted
   pub bits : BitsSound m t
+  pub owners : (p : ℕ) → p < m .memory .frames → OwnerSound m l p (ownerAt t (place p)) (isGranted (markAt t (place p)))

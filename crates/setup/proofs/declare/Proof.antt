@@ -17,8 +17,8 @@ refused-requires c κs = search needs
 
 returns : tie.Need-returns
 returns c =
-    let x = c .before .before .before .before .before .before .args in
-    rw (c .refused .ensures) (lacking (λ m. Declare.declare m (x .request)) (recordWith (x .memory) (x .areas .now)) (tables (x .marks .now) (x .words .now) (x .bitmap .now)) (omega (arith, c .before .if1 .taken)))
+    let x = c .before .before .before .before .before .before .before .args in
+    rw (c .refused .ensures) (lacking (λ m. Declare.declare m (x .request)) (recordWith (x .memory) (x .areas .now)) (tables (x .marks .now) (x .words .now) (x .bitmap .now) (x .owners .now)) (omega (arith, c .before .if1 .taken)))
 
 shape-right-requires : tie.Need-shape-right-requires
 shape-right-requires c κs = search needs
@@ -34,13 +34,13 @@ same-length-2 c = search needs
 
 returns-2 : tie.Need-returns-2
 returns-2 c =
-    let x = c .before .before .before .before .before .before .before .before .before .before .args in
-    returns-it (c .refused2 .ensures) (declare-wrong (recordWith (x .memory) (x .areas .now)) (x .request) (tables (x .marks .now) (x .words .now) (x .bitmap .now)) (c .before .before .shape-right .ensures) (c .before .if2 .taken)) ∙ asked (λ m. Declare.declare m (x .request)) (recordWith (x .memory) (x .areas .now)) (tables (x .marks .now) (x .words .now) (x .bitmap .now)) (omega (arith, c .before .before .before .before .before .if1 .left))
+    let x = c .before .before .before .before .before .before .before .before .before .before .before .args in
+    returns-it (c .refused2 .ensures) (declare-wrong (recordWith (x .memory) (x .areas .now)) (x .request) (tables (x .marks .now) (x .words .now) (x .bitmap .now) (x .owners .now)) (c .before .before .shape-right .ensures) (c .before .if2 .taken)) ∙ asked (λ m. Declare.declare m (x .request)) (recordWith (x .memory) (x .areas .now)) (tables (x .marks .now) (x .words .now) (x .bitmap .now) (x .owners .now)) (omega (arith, c .before .before .before .before .before .if1 .left))
 
 plan-area-requires : tie.Need-plan-area-requires
 plan-area-requires c κs =
-    let x = c .before .before .before .before .before .before .before .before .before .before .before .args in
-    shape-memory _ _ (shape-is (recordWith (x .memory) (x .areas .now)) (x .request) (tables (x .marks .now) (x .words .now) (x .bitmap .now)) (c .before .before .before .shape-right .ensures) (c .before .before .if2 .left))
+    let x = c .before .before .before .before .before .before .before .before .before .before .before .before .args in
+    shape-memory _ _ (shape-is (recordWith (x .memory) (x .areas .now)) (x .request) (tables (x .marks .now) (x .words .now) (x .bitmap .now) (x .owners .now)) (c .before .before .before .shape-right .ensures) (c .before .before .if2 .left))
 
 enum-known-plan : tie.Need-enum-known-plan
 enum-known-plan c = search needs
@@ -53,13 +53,13 @@ enum-known-plan-2 c = search needs
 
 clear-words-requires : tie.Need-clear-words-requires
 clear-words-requires c κs =
-    let x = c .before .before .before .before .before .before .before .before .before .before .before .before .before .before .before .before .before .args in
-    words-inside (recordWith (x .memory) (x .areas .now)) (x .request) (tables (x .marks .now) (x .words .now) (x .bitmap .now)) (c .before .before .before .before .before .before .before .before .before .shape-right .ensures) (c .before .before .before .before .before .before .before .before .if2 .left)
+    let x = c .before .before .before .before .before .before .before .before .before .before .before .before .before .before .before .before .before .before .args in
+    words-inside (recordWith (x .memory) (x .areas .now)) (x .request) (tables (x .marks .now) (x .words .now) (x .bitmap .now) (x .owners .now)) (c .before .before .before .before .before .before .before .before .before .shape-right .ensures) (c .before .before .before .before .before .before .before .before .if2 .left)
 
 with-area-requires : tie.Need-with-area-requires
 with-area-requires c κs =
-    let x = c .before .before .before .before .before .before .before .before .before .before .before .before .before .before .before .before .before .before .before .before .before .args in
-    declare-few (recordWith (x .memory) (x .areas .now)) (x .request) (tables (x .marks .now) (x .words .now) (x .bitmap .now)) (c .before .before .before .before .before .before .before .before .before .before .before .before .before .shape-right .ensures) (c .before .before .before .before .before .before .before .before .before .before .before .before .if2 .left) (c .before .before .before .before .before .before .before .before .before .plan-area .ensures) (c .before .before .before .before .before .before .before .plan2 .given .1)
+    let x = c .before .before .before .before .before .before .before .before .before .before .before .before .before .before .before .before .before .before .before .before .before .before .args in
+    declare-few (recordWith (x .memory) (x .areas .now)) (x .request) (tables (x .marks .now) (x .words .now) (x .bitmap .now) (x .owners .now)) (c .before .before .before .before .before .before .before .before .before .before .before .before .before .shape-right .ensures) (c .before .before .before .before .before .before .before .before .before .before .before .before .if2 .left) (c .before .before .before .before .before .before .before .before .before .plan-area .ensures) (c .before .before .before .before .before .before .before .plan2 .given .1)
 
 done-requires : tie.Need-done-requires
 done-requires c κs = search needs
@@ -72,9 +72,9 @@ same-length-4 c = search needs
 
 returns-3 : tie.Need-returns-3
 returns-3 c =
-    let x = c .before .before .before .before .before .before .before .before .before .before .before .before .before .before .before .before .args in
+    let x = c .before .before .before .before .before .before .before .before .before .before .before .before .before .before .before .before .before .args in
     returns-it (c .refused3 .ensures)
-    (declare-not (recordWith (x .memory) (x .areas .now)) (x .request) (tables (x .marks .now) (x .words .now) (x .bitmap .now)) (c .before .before .before .before .before .before .before .before .shape-right .ensures) (c .before .before .before .before .before .before .before .if2 .left) (c .before .before .before .before .plan-area .ensures) (c .before .before .plan .given .1)) ∙ asked (λ m. Declare.declare m (x .request)) (recordWith (x .memory) (x .areas .now)) (tables (x .marks .now) (x .words .now) (x .bitmap .now)) (omega (arith, c .before .before .before .before .before .before .before .before .before .before .before .if1 .left))
+    (declare-not (recordWith (x .memory) (x .areas .now)) (x .request) (tables (x .marks .now) (x .words .now) (x .bitmap .now) (x .owners .now)) (c .before .before .before .before .before .before .before .before .shape-right .ensures) (c .before .before .before .before .before .before .before .if2 .left) (c .before .before .before .before .plan-area .ensures) (c .before .before .plan .given .1)) ∙ asked (λ m. Declare.declare m (x .request)) (recordWith (x .memory) (x .areas .now)) (tables (x .marks .now) (x .words .now) (x .bitmap .now) (x .owners .now)) (omega (arith, c .before .before .before .before .before .before .before .before .before .before .before .if1 .left))
 
 same-length-5 : tie.Need-same-length-5
 same-length-5 c = search needs
@@ -84,8 +84,8 @@ same-length-6 c = search needs
 
 returns-4 : tie.Need-returns-4
 returns-4 c =
-    let x = c .before .before .before .before .before .before .before .before .before .before .before .before .before .before .before .before .before .before .before .before .before .before .before .before .before .args in
-    declare-made (recordWith (x .memory) (x .areas .now)) (x .request) (tables (x .marks .now) (x .words .now) (x .bitmap .now)) (c .before .before .before .before .before .before .before .before .before .before .before .before .before .before .before .before .before .shape-right .ensures) (c .before .before .before .before .before .before .before .before .before .before .before .before .before .before .before .before .if2 .left) (c .before .before .before .before .before .before .before .before .before .before .before .before .before .plan-area .ensures) (c .before .before .before .before .before .before .before .before .before .before .before .plan2 .given .1) (c .before .before .before .before .before .before .before .clear-words .ensures) (c .before .before .before .with-area .ensures) (c .done .ensures) ∙ asked (λ m. Declare.declare m (x .request)) (recordWith (x .memory) (x .areas .now)) (tables (x .marks .now) (x .words .now) (x .bitmap .now)) (omega (arith, c .before .before .before .before .before .before .before .before .before .before .before .before .before .before .before .before .before .before .before .before .if1 .left))
+    let x = c .before .before .before .before .before .before .before .before .before .before .before .before .before .before .before .before .before .before .before .before .before .before .before .before .before .before .args in
+    declare-made (recordWith (x .memory) (x .areas .now)) (x .request) (tables (x .marks .now) (x .words .now) (x .bitmap .now) (x .owners .now)) (c .before .before .before .before .before .before .before .before .before .before .before .before .before .before .before .before .before .shape-right .ensures) (c .before .before .before .before .before .before .before .before .before .before .before .before .before .before .before .before .if2 .left) (c .before .before .before .before .before .before .before .before .before .before .before .before .before .plan-area .ensures) (c .before .before .before .before .before .before .before .before .before .before .before .plan2 .given .1) (c .before .before .before .before .before .before .before .clear-words .ensures) (c .before .before .before .with-area .ensures) (c .done .ensures) ∙ asked (λ m. Declare.declare m (x .request)) (recordWith (x .memory) (x .areas .now)) (tables (x .marks .now) (x .words .now) (x .bitmap .now) (x .owners .now)) (omega (arith, c .before .before .before .before .before .before .before .before .before .before .before .before .before .before .before .before .before .before .before .before .if1 .left))
 
 pub declare-spec : {M : Type 1} → statement M
 declare-spec =

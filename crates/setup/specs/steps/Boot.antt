@@ -16,7 +16,7 @@ use Rattle.rules.specs.Does.{recordWith}
 
 -- tables for so many frames and bitmap words that are all zero
 abbrev pub clearTables : ℕ → ℕ → Tables
-clearTables frames room = tables (replicate frames 0) (replicate frames 0) (replicate room 0)
+clearTables frames room = tables (replicate frames 0) (replicate frames 0) (replicate room 0) (replicate frames 0)
 
 -- a record of numbers that keep to their limits has no areas
 pub record IsBare (memory : Memory) (areas : List ℕ) : Type 0 where

@@ -38,7 +38,7 @@ pub record AmountsFit (x : Rounded) : Type 0 where
 
 -- of the tables a plan reads the marks, and how long the bitmap is
 abbrev pub planTables : List ℕ → List ℕ → Tables
-planTables marks bitmap = tables marks [] bitmap
+planTables marks bitmap = tables marks [] bitmap []
 
 -- the area, unless a check holds
 unfoldable pub planned : List Check → Area → Plan

@@ -33,27 +33,31 @@ returns-4 : tie.Need-returns-4
 unfolding shapeRight lengthsRight
 returns-4 c = simp (ne-eqb _ _ (c .if4 .taken), and-false-right)
 
-areas-fit-requires : tie.Need-areas-fit-requires
-areas-fit-requires c κs = sym (c .before .before .before .before .memory-right .ensures) ∙ not-false _ (c .before .before .before .if1 .left)
-
 returns-5 : tie.Need-returns-5
+unfolding shapeRight lengthsRight
+returns-5 c = simp (ne-eqb _ _ (c .if5 .taken), and-false-right)
+
+areas-fit-requires : tie.Need-areas-fit-requires
+areas-fit-requires c κs = sym (c .before .before .before .before .before .memory-right .ensures) ∙ not-false _ (c .before .before .before .before .if1 .left)
+
+returns-6 : tie.Need-returns-6
 unfolding shapeRight
-returns-5 c = simp (sym (c .before .areas-fit .ensures) ∙ not-true _ (c .if5 .taken), and-false-right)
+returns-6 c = simp (sym (c .before .areas-fit .ensures) ∙ not-true _ (c .if6 .taken), and-false-right)
 
 first-word-requires : tie.Need-first-word-requires
 first-word-requires c κs = search needs
 
-returns-6 : tie.Need-returns-6
+returns-7 : tie.Need-returns-7
 unfolding shapeRight lengthsRight
-returns-6 c =
-    let x = c .before .before .before .before .before .before .before .before .before .before .before .before .args in
+returns-7 c =
+    let x = c .before .before .before .before .before .before .before .before .before .before .before .before .before .before .args in
     let m = recordWith (x .memory) (now (x .areas)) in
     let declared = x .memory .declared in
-    let right = sym (c .before .before .before .before .before .before .before .memory-right .ensures) ∙ not-false _ (c .before .before .before .before .before .before .if1 .left) in
-    let fit = sym (c .before .before .areas-fit .ensures) ∙ not-false _ (c .before .if5 .left) in
-    let few = c .before .before .before .before .before .if2 .left in
+    let right = sym (c .before .before .before .before .before .before .before .before .memory-right .ensures) ∙ not-false _ (c .before .before .before .before .before .before .before .if1 .left) in
+    let fit = sym (c .before .before .areas-fit .ensures) ∙ not-false _ (c .before .if6 .left) in
+    let few = c .before .before .before .before .before .before .if2 .left in
     let exact = fitting-exact m right declared few (λ k h. every-all (areaFits m) 0 declared fit k (omega arith) (omega arith)) in
-    simp (right, le-leb declared mostAreas few, eq-eqb _ _ (c .before .before .before .before .if3 .left), eq-eqb _ _ (c .before .before .before .if4 .left), fit, c .first-word .ensures ∙ exact)
+    simp (right, le-leb declared mostAreas few, eq-eqb _ _ (c .before .before .before .before .before .if3 .left), eq-eqb _ _ (c .before .before .before .before .if4 .left), eq-eqb _ _ (c .before .before .before .if5 .left), fit, c .first-word .ensures ∙ exact)
 
 pub shape-right-spec : {M : Type 1} → statement M
 shape-right-spec =
@@ -64,7 +68,8 @@ shape-right-spec =
     returns-2
     returns-3
     returns-4
-    areas-fit-requires
     returns-5
+    areas-fit-requires
+    returns-6
     first-word-requires
-    returns-6)
+    returns-7)

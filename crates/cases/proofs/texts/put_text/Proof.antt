@@ -32,11 +32,14 @@ same-length-3 c = search needs
 same-length-4 : tie.Need-same-length-4
 same-length-4 c = search needs
 
+same-length-5 : tie.Need-same-length-5
+same-length-5 c = search needs
+
 returns : tie.Need-returns
 returns c =
-    let read = c .before .before .before .before .before .before .before .before .before .before .before .before .before .before .before .before .before .before .before .before .put-read .kept in
-    let e = c .before .before .before .before .before .before .before .before .before .before .before .before .before .put-boot .ensures in
-    let k = c .before .before .before .before .before .before .before .before .before .before .before .before .before .put-boot .kept in
+    let read = c .before .before .before .before .before .before .before .before .before .before .before .before .before .before .before .before .before .before .before .before .before .before .before .put-read .kept in
+    let e = c .before .before .before .before .before .before .before .before .before .before .before .before .before .before .before .put-boot .ensures in
+    let k = c .before .before .before .before .before .before .before .before .before .before .before .before .before .before .before .put-boot .kept in
     let whole = appended-within (c .before .before .put-bytes .ensures) (omega arith) in
     omega arith
 
@@ -53,4 +56,5 @@ put-text-spec =
     same-length-2
     same-length-3
     same-length-4
+    same-length-5
     returns)

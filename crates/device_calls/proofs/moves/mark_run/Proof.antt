@@ -30,11 +30,11 @@ mul-words c = search needs
 slice-write-words : tie.Need-slice-write-words
 slice-write-words c = search needs
 
-sub-fill-marks : tie.Need-sub-fill-marks
-sub-fill-marks c = search needs
+sub-fill-places : tie.Need-sub-fill-places
+sub-fill-places c = search needs
 
-fill-marks-requires : tie.Need-fill-marks-requires
-fill-marks-requires c κs = search needs
+fill-places-requires : tie.Need-fill-places-requires
+fill-places-requires c κs = search needs
 
 sub-fill-words : tie.Need-sub-fill-words
 sub-fill-words c = search needs
@@ -49,7 +49,7 @@ same-length-2 : tie.Need-same-length-2
 same-length-2 c = c .before .words .given ∙ simp length-set
 
 returns : tie.Need-returns
-returns c = let x = c .before .before .before .before .before .before .before .before .before .before .args in run-marked (x .marks .now) (x .words .now) (x .page) (x .count) refl refl (c .before .before .before .before .before .before .fill-marks .ensures) (c .before .before .fill-words .ensures)
+returns c = let x = c .before .before .before .before .before .before .before .before .before .before .args in run-marked (x .marks .now) (x .words .now) (x .page) (x .count) refl refl (c .before .before .before .before .before .before .fill-places .ensures) (c .before .before .fill-words .ensures)
 
 pub mark-run-spec : {M : Type 1} → statement M
-mark-run-spec = tie.close (tie.spec add-marks cast-marks mul-marks add-marks-2 mul-marks-2 slice-write-marks mul-words slice-write-words sub-fill-marks fill-marks-requires sub-fill-words fill-words-requires same-length same-length-2 returns)
+mark-run-spec = tie.close (tie.spec add-marks cast-marks mul-marks add-marks-2 mul-marks-2 slice-write-marks mul-words slice-write-words sub-fill-places fill-places-requires sub-fill-words fill-words-requires same-length same-length-2 returns)

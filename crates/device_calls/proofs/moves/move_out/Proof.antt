@@ -19,7 +19,7 @@ use Rattle.device_calls.proofs.moves.move_out.Tie as tie
 
 abbrev Inv : tie.InvT-loop
 Inv memory areas ms₀ ws₀ count end at₀ order stretch₀ ms ws at stretch =
-    Moving (recordWith memory areas) (tables ms₀ ws₀ []) (at₀ .0) (end .0) (tables ms ws []) (at .0) (stretch .from .0) × Walks (memory .base) areas (memory .declared) (memory .frames) order stretch
+    Moving (recordWith memory areas) (tables ms₀ ws₀ [] []) (at₀ .0) (end .0) (tables ms ws [] []) (at .0) (stretch .from .0) × Walks (memory .base) areas (memory .declared) (memory .frames) order stretch
 
 abbrev μ : tie.MeasureT-loop
 μ memory areas ms₀ ws₀ count end at₀ order stretch₀ ms ws at stretch = end .0 - at .0
@@ -58,7 +58,7 @@ loop-holds : tie.Need-loop-holds Inv μ
 loop-holds c =
     let x = c .before .before .before .before .before .before .before .before .before .before .before .args in
     subst
-    (λ (r : Stretch). Moving (machine (c .before .before .before .before .before .before .before .before .before .before .before)) (tables (x .marks .now) (x .words .now) []) (c .before .before .before .before .before .next-movable .result .0) (x .page .0 + x .count) (tables (x .marks .now) (x .words .now) []) (c .before .before .before .before .before .next-movable .result .0) (r .from .0) × Walks (x .memory .base) (x .areas .now) (x .memory .declared) (x .memory .frames) (c .before .in-order .result) r)
+    (λ (r : Stretch). Moving (machine (c .before .before .before .before .before .before .before .before .before .before .before)) (tables (x .marks .now) (x .words .now) [] []) (c .before .before .before .before .before .next-movable .result .0) (x .page .0 + x .count) (tables (x .marks .now) (x .words .now) [] []) (c .before .before .before .before .before .next-movable .result .0) (r .from .0) × Walks (x .memory .base) (x .areas .now) (x .memory .declared) (x .memory .frames) (c .before .in-order .result) r)
     (sym (c .none .ensures)) (
       moving-start (machine (c .before .before .before .before .before .before .before .before .before .before .before)) _ _ _ (x .page .0) (omega arith) (c .before .before .before .before .before .next-movable .ensures),
       record { ordinary = λ k low high. absurd (omega arith); next = omega arith; passed = λ p h. absurd (omega arith) },

@@ -19,8 +19,8 @@ mul-word c = search needs
 slice-read-word : tie.Need-slice-read-word
 slice-read-word c = c .before .before .before .before .pre .1
 
-fill-marks-requires : tie.Need-fill-marks-requires
-fill-marks-requires c κs = search needs
+fill-places-requires : tie.Need-fill-places-requires
+fill-places-requires c κs = search needs
 
 fill-words-requires : tie.Need-fill-words-requires
 fill-words-requires c κs = search needs
@@ -44,7 +44,7 @@ same-length-2 : tie.Need-same-length-2
 same-length-2 c = search needs
 
 returns : tie.Need-returns
-returns c = let x = c .before .before .before .before .before .before .before .before .before .before .before .before .args in moved-by (tables (x .marks .now) (x .words .now) []) (x .page) (x .to) (c .before .before .before .before .before .before .fill-marks .ensures) (c .before .before .fill-words .ensures)
+returns c = let x = c .before .before .before .before .before .before .before .before .before .before .before .before .args in moved-by (tables (x .marks .now) (x .words .now) [] []) (x .page) (x .to) (c .before .before .before .before .before .before .fill-places .ensures) (c .before .before .fill-words .ensures)
 
 pub move-page-spec : {M : Type 1} → statement M
-move-page-spec = tie.close (tie.spec mul-mark slice-read-mark mul-word slice-read-word fill-marks-requires fill-words-requires mul-marks slice-write-marks mul-words slice-write-words same-length same-length-2 returns)
+move-page-spec = tie.close (tie.spec mul-mark slice-read-mark mul-word slice-read-word fill-places-requires fill-words-requires mul-marks slice-write-marks mul-words slice-write-words same-length same-length-2 returns)

@@ -34,9 +34,9 @@ abbrev μ : tie.MeasureT-loop
 abbrev machine : tie.Start Inv μ → Record
 machine s = recordWith (s .args .memory) (s .args .areas .now)
 
--- the tables, but for the words
+-- the tables, but for the words and the owners
 abbrev lent : tie.Start Inv μ → Tables
-lent s = tables (s .args .marks .now) [] (s .args .bitmap .now)
+lent s = tables (s .args .marks .now) [] (s .args .bitmap .now) []
 
 area-at-requires : tie.Need-area-at-requires Inv μ
 area-at-requires c κs = search needs

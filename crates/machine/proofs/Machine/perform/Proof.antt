@@ -11,43 +11,43 @@ returns : tie.Need-returns
 returns c = rw (c .refused .ensures) (lacking _ _ _ (omega (arith, c .before .if1 .taken)))
 
 returns-2 : tie.Need-returns-2
-returns-2 c = rw (c .before .before .before .before .before .before .before .before .before .before .before .before .before .before .call .given .1) (c .before .before .before .before .before .before .before .before .put-movable .ensures ∙ asked _ _ _ (omega (arith, c .before .before .before .before .before .before .before .before .before .before .before .before .before .before .before .before .if1 .left)))
+returns-2 c = rw (c .before .before .before .before .before .before .before .before .before .before .before .before .before .before .before .before .before .call .given .1) (c .before .before .before .before .before .before .before .before .before .before .put-movable .ensures ∙ asked _ _ _ (omega (arith, c .before .before .before .before .before .before .before .before .before .before .before .before .before .before .before .before .before .before .before .if1 .left)))
 
 returns-3 : tie.Need-returns-3
-returns-3 c = rw (c .before .before .before .before .before .before .before .before .before .before .before .before .before .before .call2 .given .1) (c .before .before .before .before .before .before .before .before .put-fixed .ensures ∙ asked _ _ _ (omega (arith, c .before .before .before .before .before .before .before .before .before .before .before .before .before .before .before .before .if1 .left)))
+returns-3 c = rw (c .before .before .before .before .before .before .before .before .before .before .before .before .before .before .before .before .before .call2 .given .1) (c .before .before .before .before .before .before .before .before .before .before .put-fixed .ensures ∙ asked _ _ _ (omega (arith, c .before .before .before .before .before .before .before .before .before .before .before .before .before .before .before .before .before .before .before .if1 .left)))
 
 returns-4 : tie.Need-returns-4
-returns-4 c = rw (c .before .before .before .before .before .before .before .before .before .before .before .before .before .before .call3 .given .1) (c .before .before .before .before .before .before .before .before .drop-page .ensures ∙ asked _ _ _ (omega (arith, c .before .before .before .before .before .before .before .before .before .before .before .before .before .before .before .before .if1 .left)))
+returns-4 c = rw (c .before .before .before .before .before .before .before .before .before .before .before .before .before .before .before .before .before .call3 .given .1) (c .before .before .before .before .before .before .before .before .before .before .drop-page .ensures ∙ asked _ _ _ (omega (arith, c .before .before .before .before .before .before .before .before .before .before .before .before .before .before .before .before .before .before .before .if1 .left)))
 
 returns-5 : tie.Need-returns-5
-returns-5 c = rw (c .before .before .before .before .before .before .before .before .before .before .before .before .before .before .call4 .given .1) (c .before .before .before .before .before .before .before .before .pin-page .ensures ∙ asked _ _ _ (omega (arith, c .before .before .before .before .before .before .before .before .before .before .before .before .before .before .before .before .if1 .left)))
+returns-5 c = rw (c .before .before .before .before .before .before .before .before .before .before .before .before .before .before .before .before .before .call4 .given .1) (c .before .before .before .before .before .before .before .before .before .before .pin-page .ensures ∙ asked _ _ _ (omega (arith, c .before .before .before .before .before .before .before .before .before .before .before .before .before .before .before .before .before .before .before .if1 .left)))
 
 returns-6 : tie.Need-returns-6
-returns-6 c = rw (c .before .before .before .before .before .before .before .before .before .before .before .before .before .before .call5 .given .1) (c .before .before .before .before .before .before .before .before .unpin-page .ensures ∙ asked _ _ _ (omega (arith, c .before .before .before .before .before .before .before .before .before .before .before .before .before .before .before .before .if1 .left)))
+returns-6 c = rw (c .before .before .before .before .before .before .before .before .before .before .before .before .before .before .before .before .before .call5 .given .1) (c .before .before .before .before .before .before .before .before .before .before .unpin-page .ensures ∙ asked _ _ _ (omega (arith, c .before .before .before .before .before .before .before .before .before .before .before .before .before .before .before .before .before .before .before .if1 .left)))
 
 returns-7 : tie.Need-returns-7
-returns-7 c = rw (c .before .before .before .before .before .before .before .before .before .before .before .before .before .before .call6 .given .1) (c .before .before .before .before .before .before .before .before .store-page .ensures ∙ asked _ _ _ (omega (arith, c .before .before .before .before .before .before .before .before .before .before .before .before .before .before .before .before .if1 .left)))
+returns-7 c = rw (c .before .before .before .before .before .before .before .before .before .before .before .before .before .before .before .before .before .call6 .given .1) (c .before .before .before .before .before .before .before .before .before .before .store-page .ensures ∙ asked _ _ _ (omega (arith, c .before .before .before .before .before .before .before .before .before .before .before .before .before .before .before .before .before .before .before .if1 .left)))
 
 returns-8 : tie.Need-returns-8
-returns-8 c = rw (c .before .before .before .before .before .before .before .before .before .before .before .before .before .before .call7 .given .1) (c .before .before .before .before .before .before .before .before .read-page .ensures ∙ asked _ _ _ (omega (arith, c .before .before .before .before .before .before .before .before .before .before .before .before .before .before .before .before .if1 .left)))
+returns-8 c = rw (c .before .before .before .before .before .before .before .before .before .before .before .before .before .before .before .before .before .call7 .given .1) (c .before .before .before .before .before .before .before .before .before .before .read-page .ensures ∙ asked _ _ _ (omega (arith, c .before .before .before .before .before .before .before .before .before .before .before .before .before .before .before .before .before .before .before .if1 .left)))
 
 returns-9 : tie.Need-returns-9
-returns-9 c = rw (c .before .before .before .before .before .before .before .before .before .before .before .before .before .before .call8 .given .1) (c .before .before .before .before .before .before .before .before .grant .ensures ∙ asked _ _ _ (omega (arith, c .before .before .before .before .before .before .before .before .before .before .before .before .before .before .before .before .if1 .left)))
+returns-9 c = rw (c .before .before .before .before .before .before .before .before .before .before .before .before .before .before .before .before .before .call8 .given .1) (c .before .before .before .before .before .before .before .before .before .before .grant .ensures ∙ asked _ _ _ (omega (arith, c .before .before .before .before .before .before .before .before .before .before .before .before .before .before .before .before .before .before .before .if1 .left)))
 
 returns-10 : tie.Need-returns-10
-returns-10 c = rw (c .before .before .before .before .before .before .before .before .before .before .before .before .before .before .call9 .given .1) (c .before .before .before .before .before .before .before .before .release .ensures ∙ asked _ _ _ (omega (arith, c .before .before .before .before .before .before .before .before .before .before .before .before .before .before .before .before .if1 .left)))
+returns-10 c = rw (c .before .before .before .before .before .before .before .before .before .before .before .before .before .before .before .before .before .call9 .given .1) (c .before .before .before .before .before .before .before .before .before .before .release .ensures ∙ asked _ _ _ (omega (arith, c .before .before .before .before .before .before .before .before .before .before .before .before .before .before .before .before .before .before .before .if1 .left)))
 
 returns-11 : tie.Need-returns-11
-returns-11 c = rw (c .before .before .before .before .before .before .before .before .before .before .before .before .before .before .call10 .given .1) (c .before .before .before .before .before .before .before .before .device-store .ensures ∙ asked _ _ _ (omega (arith, c .before .before .before .before .before .before .before .before .before .before .before .before .before .before .before .before .if1 .left)))
+returns-11 c = rw (c .before .before .before .before .before .before .before .before .before .before .before .before .before .before .before .before .before .call10 .given .1) (c .before .before .before .before .before .before .before .before .before .before .device-store .ensures ∙ asked _ _ _ (omega (arith, c .before .before .before .before .before .before .before .before .before .before .before .before .before .before .before .before .before .before .before .if1 .left)))
 
 returns-12 : tie.Need-returns-12
-returns-12 c = rw (c .before .before .before .before .before .before .before .before .before .before .before .before .before .before .call11 .given .1) (c .before .before .before .before .before .before .before .before .device-read .ensures ∙ asked _ _ _ (omega (arith, c .before .before .before .before .before .before .before .before .before .before .before .before .before .before .before .before .if1 .left)))
+returns-12 c = rw (c .before .before .before .before .before .before .before .before .before .before .before .before .before .before .before .before .before .call11 .given .1) (c .before .before .before .before .before .before .before .before .before .before .device-read .ensures ∙ asked _ _ _ (omega (arith, c .before .before .before .before .before .before .before .before .before .before .before .before .before .before .before .before .before .before .before .if1 .left)))
 
 returns-13 : tie.Need-returns-13
-returns-13 c = rw (c .before .before .before .before .before .before .before .before .before .before .before .before .before .before .call12 .given .1) (c .before .before .before .before .before .before .before .before .declare .ensures)
+returns-13 c = rw (c .before .before .before .before .before .before .before .before .before .before .before .before .before .before .before .before .before .call12 .given .1) (c .before .before .before .before .before .before .before .before .before .before .declare .ensures)
 
 returns-14 : tie.Need-returns-14
-returns-14 c = rw (c .before .before .before .before .before .before .before .before .before .before .before .before .before .before .call13 .given .1) (c .before .before .before .before .before .before .before .before .boot .ensures)
+returns-14 c = rw (c .before .before .before .before .before .before .before .before .before .before .before .before .before .before .before .before .before .call13 .given .1) (c .before .before .before .before .before .before .before .before .before .before .boot .ensures)
 
 pub perform-spec : {M : Type 1} → statement M
 perform-spec =
@@ -81,68 +81,81 @@ perform-spec =
     (λ c κs. search needs)
     (λ c. search needs)
     (λ c κs. search needs)
-    (λ c. search needs)
-    (λ c. search needs)
-    (λ c. search needs)
-    (λ c. search needs)
+    (λ c. c .before .before .before .before .before .before .before .before .before .areas .given)
+    (λ c. c .before .before .before .before .before .before .before .marks .given)
+    (λ c. c .before .before .before .before .before .words .given)
+    (λ c. c .before .before .before .bitmap .given)
+    (λ c. c .before .owners .given)
     returns-2
-    (λ c. search needs)
-    (λ c. search needs)
-    (λ c. search needs)
-    (λ c. search needs)
+    (λ c. c .before .before .before .before .before .before .before .before .before .areas2 .given)
+    (λ c. c .before .before .before .before .before .before .before .marks2 .given)
+    (λ c. c .before .before .before .before .before .words2 .given)
+    (λ c. c .before .before .before .bitmap2 .given)
+    (λ c. c .before .owners2 .given)
     returns-3
-    (λ c. search needs)
-    (λ c. search needs)
-    (λ c. search needs)
-    (λ c. search needs)
+    (λ c. c .before .before .before .before .before .before .before .before .before .areas3 .given)
+    (λ c. c .before .before .before .before .before .before .before .marks3 .given)
+    (λ c. c .before .before .before .before .before .words3 .given)
+    (λ c. c .before .before .before .bitmap3 .given)
+    (λ c. c .before .owners3 .given)
     returns-4
-    (λ c. search needs)
-    (λ c. search needs)
-    (λ c. search needs)
-    (λ c. search needs)
+    (λ c. c .before .before .before .before .before .before .before .before .before .areas4 .given)
+    (λ c. c .before .before .before .before .before .before .before .marks4 .given)
+    (λ c. c .before .before .before .before .before .words4 .given)
+    (λ c. c .before .before .before .bitmap4 .given)
+    (λ c. c .before .owners4 .given)
     returns-5
-    (λ c. search needs)
-    (λ c. search needs)
-    (λ c. search needs)
-    (λ c. search needs)
+    (λ c. c .before .before .before .before .before .before .before .before .before .areas5 .given)
+    (λ c. c .before .before .before .before .before .before .before .marks5 .given)
+    (λ c. c .before .before .before .before .before .words5 .given)
+    (λ c. c .before .before .before .bitmap5 .given)
+    (λ c. c .before .owners5 .given)
     returns-6
-    (λ c. search needs)
-    (λ c. search needs)
-    (λ c. search needs)
-    (λ c. search needs)
+    (λ c. c .before .before .before .before .before .before .before .before .before .areas6 .given)
+    (λ c. c .before .before .before .before .before .before .before .marks6 .given)
+    (λ c. c .before .before .before .before .before .words6 .given)
+    (λ c. c .before .before .before .bitmap6 .given)
+    (λ c. c .before .owners6 .given)
     returns-7
-    (λ c. search needs)
-    (λ c. search needs)
-    (λ c. search needs)
-    (λ c. search needs)
+    (λ c. c .before .before .before .before .before .before .before .before .before .areas7 .given)
+    (λ c. c .before .before .before .before .before .before .before .marks7 .given)
+    (λ c. c .before .before .before .before .before .words7 .given)
+    (λ c. c .before .before .before .bitmap7 .given)
+    (λ c. c .before .owners7 .given)
     returns-8
-    (λ c. search needs)
-    (λ c. search needs)
-    (λ c. search needs)
-    (λ c. search needs)
+    (λ c. c .before .before .before .before .before .before .before .before .before .areas8 .given)
+    (λ c. c .before .before .before .before .before .before .before .marks8 .given)
+    (λ c. c .before .before .before .before .before .words8 .given)
+    (λ c. c .before .before .before .bitmap8 .given)
+    (λ c. c .before .owners8 .given)
     returns-9
-    (λ c. search needs)
-    (λ c. search needs)
-    (λ c. search needs)
-    (λ c. search needs)
+    (λ c. c .before .before .before .before .before .before .before .before .before .areas9 .given)
+    (λ c. c .before .before .before .before .before .before .before .marks9 .given)
+    (λ c. c .before .before .before .before .before .words9 .given)
+    (λ c. c .before .before .before .bitmap9 .given)
+    (λ c. c .before .owners9 .given)
     returns-10
-    (λ c. search needs)
-    (λ c. search needs)
-    (λ c. search needs)
-    (λ c. search needs)
+    (λ c. c .before .before .before .before .before .before .before .before .before .areas10 .given)
+    (λ c. c .before .before .before .before .before .before .before .marks10 .given)
+    (λ c. c .before .before .before .before .before .words10 .given)
+    (λ c. c .before .before .before .bitmap10 .given)
+    (λ c. c .before .owners10 .given)
     returns-11
-    (λ c. search needs)
-    (λ c. search needs)
-    (λ c. search needs)
-    (λ c. search needs)
+    (λ c. c .before .before .before .before .before .before .before .before .before .areas11 .given)
+    (λ c. c .before .before .before .before .before .before .before .marks11 .given)
+    (λ c. c .before .before .before .before .before .words11 .given)
+    (λ c. c .before .before .before .bitmap11 .given)
+    (λ c. c .before .owners11 .given)
     returns-12
-    (λ c. search needs)
-    (λ c. search needs)
-    (λ c. search needs)
-    (λ c. search needs)
+    (λ c. c .before .before .before .before .before .before .before .before .before .areas12 .given)
+    (λ c. c .before .before .before .before .before .before .before .marks12 .given)
+    (λ c. c .before .before .before .before .before .words12 .given)
+    (λ c. c .before .before .before .bitmap12 .given)
+    (λ c. c .before .owners12 .given)
     returns-13
-    (λ c. search needs)
-    (λ c. search needs)
-    (λ c. search needs)
-    (λ c. search needs)
+    (λ c. c .before .before .before .before .before .before .before .before .before .areas13 .given)
+    (λ c. c .before .before .before .before .before .before .before .marks13 .given)
+    (λ c. c .before .before .before .before .before .words13 .given)
+    (λ c. c .before .before .before .bitmap13 .given)
+    (λ c. c .before .owners13 .given)
     returns-14)

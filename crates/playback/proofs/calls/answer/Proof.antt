@@ -7,7 +7,7 @@ use denote.Ref.{now}
 use Rattle.frames.specs.Tables.{Tables, tables}
 use Rattle.rules.specs.declared.Record.{Record}
 use Rattle.rules.specs.Does.{recordWith}
-use Rattle.playback.proofs.Lending.{few-marks, few-words, answered}
+use Rattle.playback.proofs.Lending.{few-marks, few-words, few-owners, answered}
 use Rattle.playback.proofs.calls.answer.Statement.{statement}
 use Rattle.playback.proofs.calls.answer.Tie as tie
 
@@ -16,7 +16,7 @@ abbrev record-of : tie.Start → Record
 record-of c = recordWith (c .args .machine .memory) (now (c .args .areas))
 
 abbrev lent-by : tie.Start → Tables
-lent-by c = tables (now (c .args .marks)) (now (c .args .words)) (now (c .args .bitmap))
+lent-by c = tables (now (c .args .marks)) (now (c .args .words)) (now (c .args .bitmap)) (now (c .args .owners))
 
 frames-for-requires : tie.Need-frames-for-requires
 frames-for-requires c κs = search needs
@@ -26,7 +26,7 @@ wrong-shape-requires c κs = search needs
 
 returns : tie.Need-returns
 returns c =
-    let start = c .before .before .before .before .before .before .before in
+    let start = c .before .before .before .before .before .before .before .before in
     let frames = c .before .before .frames-for .ensures in
     rw (c .wrong-shape .ensures) (sym (few-marks (start .args .call) (record-of start) (lent-by start) (omega arith)))
 
@@ -35,9 +35,18 @@ wrong-shape-requires-2 c κs = search needs
 
 returns-2 : tie.Need-returns-2
 returns-2 c =
-    let start = c .before .before .before .before .before .before .before .before in
+    let start = c .before .before .before .before .before .before .before .before .before in
     let frames = c .before .before .before .frames-for .ensures in
     rw (c .wrong-shape2 .ensures) (sym (few-words (start .args .call) (record-of start) (lent-by start) (omega arith)))
+
+wrong-shape-requires-3 : tie.Need-wrong-shape-requires-3
+wrong-shape-requires-3 c κs = search needs
+
+returns-3 : tie.Need-returns-3
+returns-3 c =
+    let start = c .before .before .before .before .before .before .before .before .before .before in
+    let frames = c .before .before .before .before .frames-for .ensures in
+    rw (c .wrong-shape3 .ensures) (sym (few-owners (start .args .call) (record-of start) (lent-by start) (omega arith)))
 
 sub-perform : tie.Need-sub-perform
 sub-perform c = search needs
@@ -57,6 +66,15 @@ part-perform-start-2 c = search needs
 part-perform-end-2 : tie.Need-part-perform-end-2
 part-perform-end-2 c = search needs
 
+sub-perform-3 : tie.Need-sub-perform-3
+sub-perform-3 c = search needs
+
+part-perform-start-3 : tie.Need-part-perform-start-3
+part-perform-start-3 c = search needs
+
+part-perform-end-3 : tie.Need-part-perform-end-3
+part-perform-end-3 c = search needs
+
 slice-aggregate-perform : tie.Need-slice-aggregate-perform
 slice-aggregate-perform c = search needs
 
@@ -75,15 +93,18 @@ same-length-3 c = search needs
 same-length-4 : tie.Need-same-length-4
 same-length-4 c = search needs
 
-returns-3 : tie.Need-returns-3
-returns-3 c =
-    let start = c .before .before .before .before .before .before .before .before .before .before .before .before .before .before .before .before .before .before .before .before .before in
-    let frames = c .before .before .before .before .before .before .before .before .before .before .before .before .before .before .before .before .frames-for in
+same-length-5 : tie.Need-same-length-5
+same-length-5 c = search needs
+
+returns-4 : tie.Need-returns-4
+returns-4 c =
+    let start = c .before .before .before .before .before .before .before .before .before .before .before .before .before .before .before .before .before .before .before .before .before .before .before .before .before .before in
+    let frames = c .before .before .before .before .before .before .before .before .before .before .before .before .before .before .before .before .before .before .before .before .frames-for in
     let same = frames .ensures in
-    let made = c .before .before .before .before .before .before .before .before .perform in
+    let made = c .before .before .before .before .before .before .before .before .before .before .perform in
     answered (start .args .call) (record-of start) (lent-by start) (frames .result - 0)
-    (recordWith (made .result .machine .memory) (made .last .1 .0)) (made .result .answer) (made .last .1 .1 .0) (made .last .1 .1 .1 .0) (made .last .1 .1 .1 .1 .0)
-    (start .pre) (omega arith) (omega (arith, c .before .before .before .before .before .before .before .before .before .before .before .before .before .before .before .if1 .left)) (omega (arith, c .before .before .before .before .before .before .before .before .before .before .before .before .before .before .if2 .left)) (made .ensures)
+    (recordWith (made .result .machine .memory) (made .last .1 .0)) (made .result .answer) (made .last .1 .1 .0) (made .last .1 .1 .1 .0) (made .last .1 .1 .1 .1 .0) (made .last .1 .1 .1 .1 .1 .0)
+    (start .pre) (omega arith) (omega (arith, c .before .before .before .before .before .before .before .before .before .before .before .before .before .before .before .before .before .before .before .if1 .left)) (omega (arith, c .before .before .before .before .before .before .before .before .before .before .before .before .before .before .before .before .before .before .if2 .left)) (omega (arith, c .before .before .before .before .before .before .before .before .before .before .before .before .before .before .before .before .before .if3 .left)) (made .ensures)
 
 pub answer-spec : {M : Type 1} → statement M
 answer-spec =
@@ -94,16 +115,22 @@ answer-spec =
     returns
     wrong-shape-requires-2
     returns-2
+    wrong-shape-requires-3
+    returns-3
     sub-perform
     part-perform-start
     part-perform-end
     sub-perform-2
     part-perform-start-2
     part-perform-end-2
+    sub-perform-3
+    part-perform-start-3
+    part-perform-end-3
     slice-aggregate-perform
     perform-requires
     same-length
     same-length-2
     same-length-3
     same-length-4
-    returns-3)
+    same-length-5
+    returns-4)

@@ -20,7 +20,17 @@ returns-3 : tie.Need-returns-3
 returns-3 c = simp (ne-eqb _ _ (c .if3 .taken), and-false-right)
 
 returns-4 : tie.Need-returns-4
-returns-4 c = let x = c .before .before .before .before .args in rw (eq-eqb (x .areas) mostAreaNumbers (omega arith), sym (c .before .before .memory-right .ensures) ∙ not-false _ (c .before .if2 .left), eq-eqb (x .marks) (x .memory .frames) (omega arith)) refl
+returns-4 c = simp (ne-eqb _ _ (c .if4 .taken), and-false-right)
+
+returns-5 : tie.Need-returns-5
+returns-5 c =
+    let x = c .before .before .before .before .before .args in
+    rw (
+      eq-eqb (x .areas) mostAreaNumbers (omega arith),
+      sym (c .before .before .before .memory-right .ensures) ∙ not-false _ (c .before .before .if2 .left),
+      eq-eqb (x .marks) (x .memory .frames) (omega arith),
+      eq-eqb (x .words) (x .memory .frames) (omega arith),
+    ) refl
 
 pub is-bootable-spec : {M : Type 1} → statement M
-is-bootable-spec = tie.close (tie.spec returns memory-right-requires returns-2 returns-3 returns-4)
+is-bootable-spec = tie.close (tie.spec returns memory-right-requires returns-2 returns-3 returns-4 returns-5)

@@ -1,6 +1,7 @@
 -- `szk::exchange::call` meets its contract: it is stopped before the call, or gives the call's outcome back. Assumes nothing.
 use borrow.Author.Needs.{needs}
 use native.Mathlib.Omega.{arith}
+use mathlib.Core.Path.{_∙_}
 use Rattle.szk.proofs.LentFacts.{room, stopped, performed}
 use Rattle.szk.proofs.exchange.call.Statement.{statement}
 use Rattle.szk.proofs.exchange.call.Tie as tie
@@ -34,7 +35,7 @@ perform-requires c κs = search needs
 
 give-back-requires : tie.Need-give-back-requires
 give-back-requires c κs =
-    let long = room (c .before .before .before .before .before .before .before .before .before .before .before .before .before .before .before .before .before .before .before .before .refuse-short .ensures) (c .before .before .before .before .before .before .before .before .before .before .before .before .before .before .before .before .before .if1 .left) in
+    let long = room (c .before .before .before .before .before .before .before .before .before .before .before .before .before .before .before .before .before .before .before .before .before .before .before .refuse-short .ensures) (c .before .before .before .before .before .before .before .before .before .before .before .before .before .before .before .before .before .before .before .before .if1 .left) in
     (omega (arith, long .record-long), long .after-long)
 
 same-length-3 : tie.Need-same-length-3
@@ -52,9 +53,13 @@ same-length-6 c = search needs
 same-length-7 : tie.Need-same-length-7
 same-length-7 c = search needs
 
+-- the answer's numbers, through both functions that write them
+same-length-8 : tie.Need-same-length-8
+same-length-8 c = c .before .answer2 .given ∙ c .before .before .before .before .before .before .before .before .before .before .before .before .before .before .before .before .before .before .before .before .before .before .before .before .before .before .before .answer .given
+
 returns-2 : tie.Need-returns-2
 returns-2 c =
-    performed (c .before .before .before .before .before .before .before .before .before .before .before .before .before .before .before .before .before .before .before .before .before .before .before .before .before .refuse-short .ensures) _ _ _ (c .before .before .before .before .before .before .before .before .before .before .before .before .before .before .before .before .before .before .before .before .before .before .if1 .left) (c .before .before .before .before .before .before .before .before .before .before .before .before .before .before .before .before .before .before .before .before .load .ensures) (c .before .before .before .before .before .before .before .before .before .before .before .before .before .before .before .perform .ensures) (omega arith)
+    performed (c .before .before .before .before .before .before .before .before .before .before .before .before .before .before .before .before .before .before .before .before .before .before .before .before .before .before .before .before .refuse-short .ensures) _ _ _ (c .before .before .before .before .before .before .before .before .before .before .before .before .before .before .before .before .before .before .before .before .before .before .before .before .before .if1 .left) (c .before .before .before .before .before .before .before .before .before .before .before .before .before .before .before .before .before .before .before .before .before .before .before .load .ensures) (c .before .before .before .before .before .before .before .before .before .before .before .before .before .before .before .before .before .perform .ensures) (omega arith)
     (c .before .before .before .before .give-back .ensures .0) (c .before .before .before .before .give-back .ensures .1)
 
 pub call-spec : {M : Type 1} → statement M
@@ -76,4 +81,5 @@ call-spec =
     same-length-5
     same-length-6
     same-length-7
+    same-length-8
     returns-2)
