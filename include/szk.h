@@ -17,8 +17,9 @@
  *   answer   where the answer goes: a refusal's number, or SZK_DONE, and two numbers
  *
  * Any numbers, any table contents and any lengths are taken; a refused call changes nothing but
- * the answer. What the caller owes is C's own rule: each pointer is to as many entries as its
- * length says (with a length of 0 it may be NULL), and no two of the slices overlap.
+ * the answer and, if it is szk_grant, a counter in the record. What the caller owes is C's own
+ * rule: each pointer is to as many entries as its length says (with a length of 0 it may be NULL),
+ * and no two of the slices overlap.
  *
  *   - An answer shorter than SZK_ANSWER_NUMBERS: nothing is done, and its first number, if it has
  *     one, becomes SZK_WRONG_SHAPE. An answer of length 0 can be told nothing.
@@ -33,7 +34,8 @@
  * The shape is right when P, n, b and the number of areas keep to the limits; marks, words and
  * owners have n entries; each area has count at least 1, k at most b, first and count multiples of
  * 2^b, and lies in memory; areas are disjoint; the bitmap slice has at least the words needed. A
- * frame in no area is ordinary. When a name stands twice, the lowest frame is meant.
+ * frame in no area is ordinary. The counters have no part in the shape. When a name stands twice,
+ * the lowest frame is meant.
  */
 #ifndef SZK_H
 #define SZK_H
@@ -47,17 +49,27 @@ extern "C" {
 
 /* ---- the record ---- */
 
-#define SZK_RECORD_NUMBERS 196   /* SZK_RECORD_AREAS + SZK_AREA_NUMBERS * SZK_MOST_AREAS */
+#define SZK_RECORD_NUMBERS 197   /* SZK_RECORD_AREAS + SZK_AREA_NUMBERS * SZK_MOST_AREAS */
 #define SZK_RECORD_BASE 0        /* P: the first physical frame */
 #define SZK_RECORD_FRAMES 1      /* n: how many frames there are */
 #define SZK_RECORD_BLOCK_ORDER 2 /* b: a block is 2^b frames */
 #define SZK_RECORD_DECLARED 3    /* how many area records are in use */
-#define SZK_RECORD_AREAS 4       /* area i begins at SZK_RECORD_AREAS + SZK_AREA_NUMBERS * i */
+#define SZK_RECORD_COUNTERS 4    /* both counters: SZK_GRANTED(record) and SZK_REFUSED(record) */
+#define SZK_RECORD_AREAS 5       /* area i begins at SZK_RECORD_AREAS + SZK_AREA_NUMBERS * i */
 
 #define SZK_AREA_NUMBERS 3
 #define SZK_AREA_BASE 0          /* the area's first physical frame */
 #define SZK_AREA_COUNT 1         /* its count of frames */
 #define SZK_AREA_ORDER_PER_BIT 2 /* k: a bit of its bitmap stands for 2^k frames */
+
+/*
+ * How many calls of szk_grant were done, in the low 32 bits, and how many were refused with any
+ * number but SZK_WRONG_SHAPE, in the high ones. Each counter goes on from 0 after 4,294,967,295;
+ * szk_since tells the difference of two readings. An accepted szk_boot sets both to 0, a refused
+ * one keeps them, and no other call changes them.
+ */
+#define SZK_GRANTED(record) ((uint32_t)((record)[SZK_RECORD_COUNTERS] & UINT32_MAX))
+#define SZK_REFUSED(record) ((uint32_t)((record)[SZK_RECORD_COUNTERS] >> 32))
 
 /* ---- the answer ---- */
 
@@ -82,6 +94,7 @@ extern "C" {
 #define SZK_MOST_ALIGN_ORDER UINT64_C(16)        /* of a grant */
 #define SZK_MOST_BYTES UINT64_C(281474976710656) /* an amount of bytes: 2^48 */
 #define SZK_MOST_TEXT UINT64_C(8192)             /* bytes of a regions text */
+#define SZK_REPORT_ENOUGH UINT64_C(2048)         /* a buffer that is long enough for any report */
 
 /* ---- marks: 8 x field + kind ---- */
 
@@ -112,6 +125,7 @@ extern "C" {
 #define SZK_NO_PLACE UINT64_C(13)          /* no place for the area */
 #define SZK_BITMAP_TOO_SHORT UINT64_C(14)  /* bitmap slice too short */
 #define SZK_NOT_OWNER UINT64_C(15)         /* the frame is not the device's own */
+#define SZK_BUFFER_TOO_SHORT UINT64_C(16)  /* buffer too short for the report */
 #define SZK_UNEXPECTED_BYTE UINT64_C(20)   /* text: a byte, or the end, that cannot continue */
 #define SZK_BAD_AMOUNT UINT64_C(21)        /* text: above 2^48, size 0, or a wrong alignment */
 #define SZK_NAME_REPEATED UINT64_C(22)     /* text: at a repeated name */
@@ -124,7 +138,8 @@ extern "C" {
 /*
  * Boots a machine of `frames` frames from physical frame `base`, with blocks of 2^block_order
  * frames, and declares the text's regions in turn as if every frame were free. The record given is
- * ignored. All four tables become zero, spare bitmap words too, and unused area records are zero.
+ * ignored. All four tables become zero, spare bitmap words too, and unused area records and both
+ * counters are zero.
  *
  * A region is NAME=SIZE, then optionally @START, /ALIGNMENT and :ff, in that order; ';' stands
  * between regions, as in "camera=64K@32768;signer=1M". A nonzero start is fixed. Empty text is no
@@ -261,7 +276,10 @@ void szk_read(uint64_t *record, size_t record_length, uint32_t *marks, size_t ma
  * taken. Its movable pages, ascending, go to the lowest free ordinary frames, ascending, with mark
  * and word. Then the first mark is 8 x count + 4, the others 5, the words 0, the owners the device,
  * the bits set. Frames after the count in the last bit stay usable by movable pages. Answers frame,
- * number of pages moved.
+ * number of pages moved. Adds one to the counter of granted calls.
+ *
+ * A refusal with any number but SZK_WRONG_SHAPE adds one to the counter of refused calls, and
+ * changes nothing else.
  *
  * Refused: SZK_WRONG_SHAPE; SZK_OUT_OF_RANGE for an unknown area, count 0, align above 16 or a
  * device not from 1 to 65,535; SZK_NO_RUN if there is no grantable candidate; SZK_NO_TARGET if the
@@ -308,6 +326,39 @@ void szk_device_read(uint64_t *record, size_t record_length, uint32_t *marks, si
                      uint64_t *words, size_t words_length, uint64_t *bitmap, size_t bitmap_length,
                      uint32_t *owners, size_t owners_length, uint64_t *answer, size_t answer_length,
                      uint64_t frame, uint64_t device);
+
+/* ---- the memory report ---- */
+
+/*
+ * Writes the memory report to the front of `buffer`. Answers its length, 0. Bytes after it are
+ * kept, so no 0 ends it. A buffer of just its length is long enough, and one of SZK_REPORT_ENOUGH
+ * bytes always is. The record and the tables stay as they are.
+ *
+ * These lines, each ended by a newline, are the whole report of a machine with one area of 16
+ * frames and k 0, whose first 3 are granted:
+ *
+ *   CmaTotal: 64 kB
+ *   CmaFree: 52 kB
+ *   area 0 16 3 13
+ *
+ * The totals are of all areas' frames, and of those that are free, at 4 kB a frame. Then each area
+ * has a line, in turn: its number, its count of frames, how many of them are used, and maxchunk,
+ * which is 2^k times the longest stretch of clear bits among the area's own (0 where all are set).
+ * Used are frames of kind 4 or 5; free is every other frame of an area, of kind 6 or 7 too. With no
+ * areas both totals are 0, and no line follows them.
+ *
+ * Refused, the buffer being left as it was: SZK_WRONG_SHAPE; SZK_BUFFER_TOO_SHORT.
+ */
+void szk_report(uint64_t *record, size_t record_length, uint32_t *marks, size_t marks_length,
+                uint64_t *words, size_t words_length, uint64_t *bitmap, size_t bitmap_length,
+                uint32_t *owners, size_t owners_length, uint64_t *answer, size_t answer_length,
+                uint8_t *buffer, size_t buffer_length);
+
+/*
+ * How many calls a counter has counted from an earlier reading to a later one, with no accepted
+ * boot between: later - earlier, over the wrap too. It is right when they were fewer than 2^32.
+ */
+uint32_t szk_since(uint32_t later, uint32_t earlier);
 
 #ifdef __cplusplus
 }

@@ -1,7 +1,7 @@
 /*
- * A short day of one machine, through szk.h: boot, an area, two devices, a grant that makes a page
- * move, and what is refused. Prints a line for each call: its name, the refusal and the answer's
- * numbers.
+ * A short day of one machine, through szk.h: boot, an area, two devices, a memory report, a grant
+ * that makes a page move, and what is refused. Prints a line for each call: its name, the refusal
+ * and the answer's numbers; the report's own lines; and the counters of grants.
  */
 #include "szk.h"
 
@@ -47,11 +47,24 @@ static void set_up(struct station *s)
     print_answer("declare", s);
 }
 
+/* The report as it stands in the buffer, which is no string: no 0 ends it. */
+static void print_report(struct station *s)
+{
+    uint8_t buffer[SZK_REPORT_ENOUGH];
+
+    szk_report(LENT(s), buffer, sizeof buffer);
+    print_answer("report", s);
+    fwrite(buffer, 1, (size_t)s->answer[SZK_ANSWER_FIRST], stdout);
+    szk_report(LENT(s), NULL, 0);
+    print_answer("report, no buffer", s);
+}
+
 /* The camera's buffer is the camera's alone. */
 static void use_devices(struct station *s)
 {
     szk_grant(LENT(s), 0, 3, 0, CAMERA);
     print_answer("grant 3", s);
+    print_report(s);
     szk_device_store(LENT(s), 9, 1234, CAMERA);
     print_answer("device store 9", s);
     szk_device_read(LENT(s), 9, CAMERA);
@@ -107,16 +120,30 @@ static void move_a_page(struct station *s)
     print_answer("grant 16", s);
     szk_read(LENT(s), 8);
     print_answer("read 8", s);
+    szk_grant(LENT(s), 0, 17, 0, SIGNER);
+    print_answer("grant 17", s);
+}
+
+/* The counters of grants since the boot, and how many were refused since an earlier reading. */
+static void print_counters(const struct station *s, uint32_t earlier)
+{
+    uint32_t refused = SZK_REFUSED(s->record);
+
+    printf("grants: %" PRIu32 " done, %" PRIu32 " refused, %" PRIu32 " of them lately\n",
+           SZK_GRANTED(s->record), refused, szk_since(refused, earlier));
 }
 
 int main(void)
 {
     static struct station station;
+    uint32_t refused;
 
     printf("%-18s %2s %5s %6s\n", "call", "no", "first", "second");
     set_up(&station);
     use_devices(&station);
     use_pages(&station);
+    refused = SZK_REFUSED(station.record);
     move_a_page(&station);
+    print_counters(&station, refused);
     return 0;
 }

@@ -1,6 +1,6 @@
 //! A call as a value, and a state that such calls are made on.
 
-use crate::machine::{Answer, Machine, Tables};
+use crate::machine::{refusal, Answer, Machine, Tables};
 use crate::Request;
 
 /// One call with its arguments.
@@ -19,10 +19,13 @@ pub enum Call {
     DeviceStore { frame: u64, word: u64, device: u64 },
     DeviceRead { frame: u64, device: u64 },
     Declare(Request),
+    /// Lent the first so many bytes of the buffer, or all where it has fewer.
+    Report { length: usize },
 }
 
 impl Call {
-    /// The kind byte of the call's replay record.
+    /// The kind byte of the call's replay record. A report has no record; it
+    /// has the number after the last.
     pub fn kind(&self) -> u8 {
         match self {
             Call::Boot { .. } => 0,
@@ -38,12 +41,13 @@ impl Call {
             Call::DeviceStore { .. } => 10,
             Call::DeviceRead { .. } => 11,
             Call::Declare(_) => 12,
+            Call::Report { .. } => 13,
         }
     }
 }
 
-/// Makes one call on a record and lent tables.
-pub fn apply(machine: &mut Machine, t: &mut Tables, call: &Call) -> Answer {
+/// Makes one call on a record and lent tables. The buffer is a report's.
+pub fn apply(machine: &mut Machine, t: &mut Tables, buffer: &mut [u8], call: &Call) -> Answer {
     match call {
         Call::Boot { base, frames, order, text } => machine.boot(t, *base, *frames, *order, text),
         Call::PutMovable { name } => machine.put_movable(t, *name),
@@ -58,10 +62,17 @@ pub fn apply(machine: &mut Machine, t: &mut Tables, call: &Call) -> Answer {
         Call::DeviceStore { frame, word, device } => machine.device_store(t, *frame, *word, *device),
         Call::DeviceRead { frame, device } => machine.device_read(t, *frame, *device),
         Call::Declare(request) => machine.declare(t, request),
+        Call::Report { length } => machine.report(t, front(buffer, *length)),
     }
 }
 
-/// A record together with its own tables.
+/// The first so many bytes of a buffer, or all where it has fewer.
+pub fn front(buffer: &mut [u8], length: usize) -> &mut [u8] {
+    let length = length.min(buffer.len());
+    &mut buffer[..length]
+}
+
+/// A record together with its own tables, and a buffer for reports.
 #[derive(Clone, Debug, PartialEq, Eq)]
 pub struct State {
     pub machine: Machine,
@@ -69,10 +80,12 @@ pub struct State {
     pub words: Vec<u64>,
     pub bitmap: Vec<u64>,
     pub owners: Vec<u32>,
+    pub buffer: Vec<u8>,
 }
 
 impl State {
-    /// A fresh record with zero tables of the given lengths.
+    /// A fresh record with zero tables of the given lengths, and a buffer of no
+    /// bytes.
     pub fn fresh(frames: usize, bitmap_words: usize) -> State {
         State {
             machine: Machine::fresh(),
@@ -80,6 +93,7 @@ impl State {
             words: vec![0; frames],
             bitmap: vec![0; bitmap_words],
             owners: vec![0; frames],
+            buffer: Vec::new(),
         }
     }
 
@@ -90,7 +104,17 @@ impl State {
             bitmap: &mut self.bitmap,
             owners: &mut self.owners,
         };
-        apply(&mut self.machine, &mut t, call)
+        apply(&mut self.machine, &mut t, &mut self.buffer, call)
+    }
+
+    /// What a call that is refused with this number leaves: all as it was, but
+    /// that a grant is counted, unless by its shape.
+    pub fn after_refusal(&self, call: &Call, number: u64) -> State {
+        let mut state = self.clone();
+        if matches!(call, Call::Grant { .. }) && number != refusal::SHAPE {
+            state.machine.refused = state.machine.refused.wrapping_add(1);
+        }
+        state
     }
 
     pub fn shape_is_right(&mut self) -> bool {

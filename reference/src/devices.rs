@@ -1,6 +1,6 @@
 //! Device calls: grant, release, device store and device read.
 
-use crate::machine::{answer, field_of, kind, kind_of, mark_of, refusal, Outcome};
+use crate::machine::{answer, field_of, is_granted, kind, kind_of, mark_of, refusal, Outcome};
 use crate::machine::{Answer, Machine, Tables};
 use std::ops::Range;
 
@@ -20,8 +20,15 @@ fn check_owner(t: &Tables, place: usize, device: u64) -> Result<(), u64> {
 impl Machine {
     /// Grants `count` frames of an area to a device, first frame a multiple of
     /// 2^`align`.
-    pub fn grant(&self, t: &mut Tables, area: u64, count: u64, align: u64, device: u64) -> Answer {
-        answer(self.try_grant(t, area, count, align, device))
+    pub fn grant(&mut self, t: &mut Tables, area: u64, count: u64, align: u64, device: u64) -> Answer {
+        let outcome = self.try_grant(t, area, count, align, device);
+        match outcome {
+            Ok(_) => self.granted = self.granted.wrapping_add(1),
+            // Refusals by shape are not counted.
+            Err(refusal::SHAPE) => {}
+            Err(_) => self.refused = self.refused.wrapping_add(1),
+        }
+        answer(outcome)
     }
 
     pub fn release(&self, t: &mut Tables, area: u64, frame: u64, count: u64, device: u64) -> Answer {
@@ -46,7 +53,7 @@ impl Machine {
             return Err(refusal::ARGUMENT);
         }
         let place = self.place(frame);
-        if !matches!(kind_of(t.marks[place]), kind::GRANT_FIRST | kind::GRANT_LATER) {
+        if !is_granted(t.marks[place]) {
             return Err(refusal::NOTHING_THERE);
         }
         check_owner(t, place, device)?;

@@ -4,7 +4,7 @@
 pub const PAGE: u64 = 4096;
 
 /// Refusal numbers, as document 01 lists them. 11 is a k above b or, by
-/// document 02, a limit that cannot be kept; 15 is document 02's.
+/// document 02, a limit that cannot be kept; 15 and 16 are document 02's.
 pub mod refusal {
     pub const DONE: u64 = 0;
     pub const SHAPE: u64 = 1;
@@ -22,6 +22,7 @@ pub mod refusal {
     pub const NO_PLACE: u64 = 13;
     pub const BITMAP: u64 = 14;
     pub const NOT_OWNER: u64 = 15;
+    pub const BUFFER: u64 = 16;
     pub const TEXT_BYTE: u64 = 20;
     pub const TEXT_NUMBER: u64 = 21;
     pub const TEXT_REPEATED: u64 = 22;
@@ -43,6 +44,11 @@ pub mod kind {
 /// The kind of a mark.
 pub fn kind_of(mark: u32) -> u32 {
     mark % 8
+}
+
+/// The mark of a granted frame.
+pub fn is_granted(mark: u32) -> bool {
+    matches!(kind_of(mark), kind::GRANT_FIRST | kind::GRANT_LATER)
 }
 
 /// The field of a mark: a page name or a count.
@@ -122,6 +128,10 @@ pub struct Machine {
     pub order: u64,
     /// How many of the area records are in use.
     pub declared: u64,
+    /// How many grant calls were done since the boot, and how many refused for
+    /// another reason than the shape. Both wrap on purpose.
+    pub granted: u32,
+    pub refused: u32,
     pub areas: [Area; Machine::MAX_AREAS as usize],
 }
 
@@ -146,7 +156,7 @@ impl Machine {
     /// A fresh record is all zeros.
     pub fn fresh() -> Machine {
         let areas = [Area::default(); Machine::MAX_AREAS as usize];
-        Machine { base: 0, frames: 0, order: 0, declared: 0, areas }
+        Machine { base: 0, frames: 0, order: 0, declared: 0, granted: 0, refused: 0, areas }
     }
 
     /// One past the last physical frame. Only asked of a right shape.

@@ -94,11 +94,12 @@ fn fields(call: &Call) -> Vec<(u64, usize)> {
             (r.order, 1),
             (u64::from(r.fixed), 1),
         ],
+        Call::Report { .. } => panic!("a report has no record"),
     }
 }
 
-/// The record of a call, numbers cut to the record's widths and a boot's text
-/// left out.
+/// The record of a call that has one, numbers cut to the record's widths and a
+/// boot's text left out.
 pub fn encode(call: &Call) -> Vec<u8> {
     let mut out = vec![call.kind()];
     for (value, bytes) in fields(call) {
@@ -127,7 +128,8 @@ impl Station {
         }
     }
 
-    /// A copy of the record and of the entries its machine has.
+    /// A copy of the record and of the entries its machine has. There is no
+    /// buffer, since no record is a report.
     pub fn view(&self) -> State {
         let frames = self.machine.frames as usize;
         State {
@@ -136,11 +138,12 @@ impl Station {
             words: self.words[..frames].to_vec(),
             bitmap: self.bitmap.clone(),
             owners: self.owners[..frames].to_vec(),
+            buffer: Vec::new(),
         }
     }
 
-    /// Makes a call, lending as many entries as the machine has frames; a
-    /// boot is lent as many as it asks for.
+    /// Makes the call of a record, lending as many entries as the machine has
+    /// frames; a boot is lent as many as it asks for.
     pub fn call(&mut self, call: &Call) -> Answer {
         let frames = match call {
             Call::Boot { frames, .. } => *frames,
@@ -155,7 +158,7 @@ impl Station {
             bitmap: &mut self.bitmap,
             owners: &mut self.owners[..frames as usize],
         };
-        apply(&mut self.machine, &mut t, call)
+        apply(&mut self.machine, &mut t, &mut [], call)
     }
 }
 
@@ -180,13 +183,14 @@ fn read_up_to(input: &mut impl Read, buffer: &mut [u8]) -> io::Result<usize> {
 }
 
 /// What stands next in the input.
-enum Next {
+pub enum Next {
     End,
     Bad,
     Record { call: Call, length: u64 },
 }
 
-fn next_record(input: &mut impl Read) -> io::Result<Next> {
+/// Reads the next record. It is bad where its kind is unknown or its body cut.
+pub fn next_record(input: &mut impl Read) -> io::Result<Next> {
     let mut kind = [0u8; 1];
     if read_up_to(input, &mut kind)? == 0 {
         return Ok(Next::End);

@@ -2,9 +2,10 @@
 //! implementations. The same seed always gives the same list.
 
 use crate::calls::{Call, State};
-use crate::machine::{field_of, kind, kind_of, mark_of, Answer, Area, Machine, PAGE};
+use crate::machine::{field_of, is_granted, kind, kind_of, mark_of, Answer, Area, Machine, PAGE};
 use crate::regions::MAX_TEXT;
 use crate::replay::{decode, encode, Station, BITMAP_WORDS};
+use crate::report::ENOUGH;
 use crate::Request;
 
 /// The most areas, and the most regions of a text.
@@ -190,10 +191,9 @@ fn some_bitmap_word(rng: &mut Rng, style: u64) -> u64 {
 /// One owner, in one of several styles of table: none, a few devices where a
 /// mark is granted or anywhere, any number, numbers around those of devices.
 fn some_owner(rng: &mut Rng, style: u64, mark: u32) -> u32 {
-    let is_granted = matches!(kind_of(mark), kind::GRANT_FIRST | kind::GRANT_LATER);
     match style {
         0 => 0,
-        1..=3 if is_granted => rng.pick(&[1, 1, 2, 3]),
+        1..=3 if is_granted(mark) => rng.pick(&[1, 1, 2, 3]),
         1..=3 => 0,
         4 => rng.within(0, 3) as u32,
         5 => rng.next() as u32,
@@ -223,6 +223,20 @@ fn plant_grant(rng: &mut Rng, state: &mut State) {
     state.bitmap[word] |= (1 << rng.below(64)) | 1 << ((start >> area.order) % 64);
 }
 
+/// A counter of grant calls: any number, often one that is soon to wrap.
+fn some_counter(rng: &mut Rng) -> u32 {
+    match rng.below(4) {
+        0 => 0,
+        1 => u32::MAX - rng.below(3) as u32,
+        _ => rng.next() as u32,
+    }
+}
+
+/// What a buffer holds before a report.
+fn some_buffer(rng: &mut Rng) -> Vec<u8> {
+    rng.next().to_le_bytes().repeat(ENOUGH / 8)
+}
+
 /// A state of right shape with arbitrary tables: names may stand twice, kinds
 /// 6 and 7 occur, and neither bits nor owners need agree with marks.
 pub fn right_state(rng: &mut Rng) -> State {
@@ -230,6 +244,7 @@ pub fn right_state(rng: &mut Rng) -> State {
     let frames = frame_count(rng, size);
     let base = first_frame(rng, frames);
     let mut machine = Machine { base, frames, order: block_order(rng, size), ..Machine::fresh() };
+    (machine.granted, machine.refused) = (some_counter(rng), some_counter(rng));
     add_areas(rng, &mut machine, size);
     fill_unused_areas(rng, &mut machine);
     // Half of the large ones are free, but for planted grants, so that whole areas can be granted.
@@ -245,6 +260,7 @@ pub fn right_state(rng: &mut Rng) -> State {
         words: (0..frames).map(|_| rng.next()).collect(),
         bitmap: (0..bitmap_len).map(|_| some_bitmap_word(rng, bitmap_style)).collect(),
         owners,
+        buffer: some_buffer(rng),
     };
     for _ in 0..rng.below(4) * machine.declared.min(1) {
         plant_grant(rng, &mut state);
@@ -329,6 +345,8 @@ fn extreme_machine(rng: &mut Rng) -> Machine {
         frames: rng.extreme(),
         order: rng.extreme(),
         declared: rng.extreme(),
+        granted: some_counter(rng),
+        refused: some_counter(rng),
         areas: [(); Machine::MAX_AREAS as usize].map(|()| Area { base: rng.extreme(), count: rng.extreme(), order: rng.extreme() }),
     }
 }
@@ -734,9 +752,22 @@ fn some_boot(rng: &mut Rng, state: &State) -> Call {
     Call::Boot { base, frames, order, text: text(rng, state) }
 }
 
+/// A report, most often with about as many bytes as it needs.
+fn some_report(rng: &mut Rng, state: &State) -> Call {
+    let needed = State { buffer: vec![0; ENOUGH], ..state.clone() }.apply(&Call::Report { length: ENOUGH }).first as usize;
+    let length = match rng.below(10) {
+        0 => 0,
+        1 => rng.below(ENOUGH as u64 + 1) as usize,
+        2..=4 => needed.saturating_sub(1),
+        5..=7 => needed,
+        _ => needed + 1,
+    };
+    Call::Report { length }
+}
+
 /// Any call, most often one that means something in this state.
 pub fn call(rng: &mut Rng, state: &State) -> Call {
-    match rng.below(200) {
+    match rng.below(206) {
         0..=6 => some_boot(rng, state),
         7..=46 => Call::PutMovable { name: some_name(rng, state) },
         47..=56 => Call::PutFixed { name: some_name(rng, state) },
@@ -755,6 +786,7 @@ pub fn call(rng: &mut Rng, state: &State) -> Call {
         147..=164 => some_release(rng, state),
         165..=176 => some_device_word(rng, state, true),
         177..=188 => some_device_word(rng, state, false),
+        189..=194 => some_report(rng, state),
         _ => Call::Declare(some_request(rng, state)),
     }
 }
@@ -769,10 +801,20 @@ pub fn call_after_boot(rng: &mut Rng, state: &State) -> Call {
     }
 }
 
+/// The same of the calls that have a record: all but a report.
+fn recorded_call(rng: &mut Rng, state: &State) -> Call {
+    loop {
+        let call = call_after_boot(rng, state);
+        if !matches!(call, Call::Report { .. }) {
+            return call;
+        }
+    }
+}
+
 // ---- lists ----
 
 /// The refusals each kind of call can give, in the order of the kind bytes.
-const POSSIBLE: [&[u64]; 13] = [
+const POSSIBLE: [&[u64]; 14] = [
     &[0, 1, 12, 13, 14, 20, 21, 22, 23, 24, 25],
     &[0, 1, 2, 4, 6],
     &[0, 1, 2, 4, 6],
@@ -786,6 +828,7 @@ const POSSIBLE: [&[u64]; 13] = [
     &[0, 1, 2, 3, 15],
     &[0, 1, 2, 3, 15],
     &[0, 1, 2, 10, 11, 12, 13, 14],
+    &[0, 1, 16],
 ];
 
 /// Every kind of call with each number it can answer: a list that should occur whole.
@@ -816,6 +859,7 @@ fn sized_boot_start(rng: &mut Rng, size: Size) -> (State, Call) {
     let mut state = State::fresh(frames as usize, bitmap_len);
     state.marks.iter_mut().for_each(|mark| *mark = rng.next() as u32);
     state.owners.iter_mut().for_each(|owner| *owner = rng.next() as u32);
+    state.buffer = some_buffer(rng);
     let base = first_frame(rng, frames);
     let order = block_order(rng, size);
     let shaped = Machine { base, frames, order, ..Machine::fresh() };
@@ -906,7 +950,7 @@ pub fn records(seed: u64, calls: u64) -> Vec<u8> {
         let view = station.view();
         let call = match view.machine.frames == 0 || rng.percent(1) {
             true if rng.percent(80) => boot_start(&mut rng).1,
-            _ => call_after_boot(&mut rng, &view),
+            _ => recorded_call(&mut rng, &view),
         };
         let record = encode(&call);
         let read_back = decode(record[0], &record[1..]).expect("an encoded record decodes");

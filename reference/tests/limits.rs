@@ -70,7 +70,8 @@ fn boot_lengths() {
     }
     // The record given is ignored, whatever it holds.
     let mut state = State::fresh(4, 2);
-    state.machine = Machine { base: 9, frames: u64::MAX, order: 99, declared: 99, ..two_areas().machine };
+    let (granted, refused) = (5, u32::MAX);
+    state.machine = Machine { base: 9, frames: u64::MAX, order: 99, declared: 99, granted, refused, ..two_areas().machine };
     state.bitmap = vec![5, 6];
     state.marks = vec![7; 4];
     state.owners = vec![1, 65_535, 65_536, u32::MAX];
@@ -852,7 +853,9 @@ fn the_first_and_the_last_device() {
         assert_eq!(ask(&mut state, store), (0, 0, 0));
         assert_eq!(ask(&mut state, read), (0, 0, 0));
         assert_eq!(ask(&mut state, release), (0, 0, 0));
-        assert_eq!(state, two_areas());
+        let mut expected = two_areas();
+        expected.machine.granted = 1;
+        assert_eq!(state, expected);
     }
 }
 

@@ -1,6 +1,7 @@
 //! The generated calls: what they reach, and what must hold for all of them.
 
-use reference::machine::{kind, kind_of, PAGE};
+use reference::machine::{is_granted, kind, kind_of, PAGE};
+use reference::report::ENOUGH;
 use reference::sample::{break_shape, call, possible_pairs, records, right_state, run, text, Rng, FAULTS};
 use reference::{Answer, Call, Request, State};
 use std::collections::{BTreeMap, HashMap};
@@ -8,7 +9,7 @@ use std::collections::{BTreeMap, HashMap};
 const CALLS: u64 = 1_000_000;
 
 fn check_refusal(before: &State, call: &Call, after: &State, answer: Answer) {
-    assert_eq!(before, after, "{call:?}");
+    assert_eq!(*after, before.after_refusal(call, answer.refusal), "{call:?}");
     assert_eq!(answer.second, 0);
     assert!(answer.first == 0 || matches!(call, Call::Boot { .. }));
 }
@@ -72,7 +73,6 @@ fn the_tables_are_as_odd_as_they_should_be() {
         twice += u32::from(pages.len() < all);
         unused_kinds += u32::from(state.marks.iter().any(|&m| kind_of(m) > kind::GRANT_LATER));
         full += u32::from(state.machine.declared == 64);
-        let is_granted = |mark| matches!(kind_of(mark), kind::GRANT_FIRST | kind::GRANT_LATER);
         let mut each = state.marks.iter().zip(&state.owners);
         no_device += u32::from(state.owners.iter().any(|&owner| owner > 65_535));
         unowned += u32::from(each.clone().any(|(&mark, &owner)| is_granted(mark) && owner == 0));
@@ -213,6 +213,84 @@ fn owners_change_where_frames_are_granted_and_released() {
         }
     });
     assert!(changed.len() == 2 && changed.values().all(|&times| times > 300), "{changed:?}");
+}
+
+/// What a call leaves of the counters of granted and of refused grants.
+fn counters_after(state: &State, call: &Call, refusal: u64) -> (u32, u32) {
+    let (granted, refused) = (state.machine.granted, state.machine.refused);
+    match (call, refusal) {
+        (Call::Boot { .. }, 0) => (0, 0),
+        (Call::Grant { .. }, 0) => (granted.wrapping_add(1), refused),
+        (Call::Grant { .. }, 2..) => (granted, refused.wrapping_add(1)),
+        _ => (granted, refused),
+    }
+}
+
+/// Grants alone are counted, and boots alone begin again; both counters wrap, at every number that a grant can be counted with.
+#[test]
+fn counters_count_grants_and_wrap() {
+    let mut wrapped: BTreeMap<u64, u64> = BTreeMap::new();
+    let mut begun = 0;
+    run(17, CALLS, &mut |before, call, after, answer| {
+        let counters = (after.machine.granted, after.machine.refused);
+        assert_eq!(counters, counters_after(before, call, answer.refusal), "{call:?}");
+        let (had, has) = (before.machine, after.machine);
+        match call {
+            Call::Grant { .. } if has.granted < had.granted || has.refused < had.refused => {
+                *wrapped.entry(answer.refusal).or_default() += 1;
+            }
+            Call::Boot { .. } if answer.refusal == 0 && had.granted != 0 && had.refused != 0 => begun += 1,
+            _ => {}
+        }
+    });
+    assert!(wrapped.keys().eq(&[0, 2, 7, 8]) && wrapped.values().all(|&times| times >= 50), "{wrapped:?}");
+    assert!(begun > 200, "{begun}");
+}
+
+/// A report writes its own bytes alone, into a buffer that need be no longer; its numbers agree with each other.
+#[test]
+fn reports_keep_what_is_not_theirs() {
+    let mut seen: BTreeMap<(&str, bool), u64> = BTreeMap::new();
+    run(18, CALLS, &mut |before, call, after, answer| {
+        let Call::Report { length } = *call else {
+            return assert_eq!(after.buffer, before.buffer, "{call:?}");
+        };
+        let written = answer.first as usize;
+        assert_eq!(after, &State { buffer: after.buffer.clone(), ..before.clone() });
+        assert_eq!(after.buffer[written..], before.buffer[written..]);
+        if answer.refusal == 1 {
+            return;
+        }
+        let needed = before.clone().apply(&Call::Report { length: ENOUGH }).first as usize;
+        assert_eq!((answer.refusal == 16, written), (length < needed, if length < needed { 0 } else { needed }));
+        let side = match length.abs_diff(needed) {
+            0 => "just enough",
+            1 => "a byte more or less",
+            _ => "any",
+        };
+        *seen.entry((side, answer.refusal == 0)).or_default() += 1;
+        if answer.refusal == 0 {
+            check_lines(before, &after.buffer[..written]);
+        }
+    });
+    assert!(seen.len() == 5 && seen.values().all(|&times| times >= 100), "{seen:?}");
+}
+
+/// The totals are those of the lines, and there is a line for each area.
+fn check_lines(state: &State, report: &[u8]) {
+    let text = std::str::from_utf8(report).expect("text");
+    let lines: Vec<&str> = text.strip_suffix('\n').expect("whole lines").split('\n').collect();
+    let areas: Vec<Vec<u64>> =
+        lines[2..].iter().map(|line| line.split(' ').skip(1).map(|word| word.parse().expect("a number")).collect()).collect();
+    assert_eq!(areas.len() as u64, state.machine.declared);
+    for (number, numbers) in areas.iter().enumerate() {
+        let [place, count, used, maxchunk] = numbers[..] else { panic!("{numbers:?}") };
+        assert_eq!((place, count), (number as u64, state.machine.areas[number].count));
+        assert!(used <= count && maxchunk <= count && maxchunk % (1 << state.machine.areas[number].order) == 0);
+    }
+    let sum = |at: usize| 4 * areas.iter().map(|numbers| numbers[at]).sum::<u64>();
+    assert_eq!(lines[0], format!("CmaTotal: {} kB", sum(1)));
+    assert_eq!(lines[1], format!("CmaFree: {} kB", sum(1) - sum(2)));
 }
 
 /// Runs calls, and tells of each declare that is not refused with 1, 10 or 2: the state before, the request, A, the answer.
@@ -387,7 +465,7 @@ impl Ledger {
 /// A list of calls after an accepted boot; accepted boots are left out.
 fn ledger_list(seed: u64, length: u64) -> (u64, u64) {
     let mut rng = Rng::new(seed);
-    let mut state = State::fresh(rng.within(8, 60) as usize, 8);
+    let mut state = State { buffer: vec![0; ENOUGH], ..State::fresh(rng.within(8, 60) as usize, 8) };
     let frames = state.marks.len() as u64;
     let shape = (rng.within(1, 40), rng.below(3));
     let boot = Call::Boot { base: shape.0, frames, order: shape.1, text: Vec::new() };
@@ -439,6 +517,8 @@ fn stored_words_leave_all_other_answers_alone() {
                 Call::Read { name } if chosen(name) => assert_eq!((a.refusal, a.first), (b.refusal, b.first)),
                 _ => assert_eq!(a, b),
             }
+            // The counters, and the bytes of a report.
+            assert_eq!((one.machine, &one.buffer), (two.machine, &two.buffer));
         }
         assert_eq!(one.marks, two.marks);
         assert_eq!(one.owners, two.owners);

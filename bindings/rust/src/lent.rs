@@ -14,9 +14,10 @@ pub struct Lent<'a> {
     pub answer: &'a mut [u64],
 }
 
-/// Declares each function of the library, and a safe function of the same arguments on `Lent`.
+/// Declares each function of the library, and a safe function of the same arguments on `Lent`: numbers, and a text that is read or a buffer
+/// that is written.
 macro_rules! calls {
-    ($($call:ident is $symbol:ident($($number:ident),* $(; $text:ident)?);)*) => {
+    ($($call:ident is $symbol:ident($($number:ident),* $(; $text:ident)?) $(into $buffer:ident)?;)*) => {
         extern "C" {
             $(fn $symbol(
                 record: *mut u64, record_length: usize,
@@ -25,12 +26,12 @@ macro_rules! calls {
                 bitmap: *mut u64, bitmap_length: usize,
                 owners: *mut u32, owners_length: usize,
                 answer: *mut u64, answer_length: usize,
-                $($number: u64,)* $($text: *const u8, text_length: usize,)?
+                $($number: u64,)* $($text: *const u8, text_length: usize,)? $($buffer: *mut u8, buffer_length: usize,)?
             );)*
         }
-        $(pub fn $call(lent: Lent, $($number: u64,)* $($text: &[u8],)?) {
+        $(pub fn $call(lent: Lent, $($number: u64,)* $($text: &[u8],)? $($buffer: &mut [u8],)?) {
             // SAFETY: the function is proved to read and write inside the slices alone, for every length and every contents, and to keep no
-            // pointer; the slices are live, and borrowed by `lent`, so that no two overlap.
+            // pointer; the slices are live, and borrowed by `lent` and the arguments, so that none overlaps one that is written.
             unsafe {
                 $symbol(
                     lent.record.as_mut_ptr(), lent.record.len(),
@@ -39,7 +40,7 @@ macro_rules! calls {
                     lent.bitmap.as_mut_ptr(), lent.bitmap.len(),
                     lent.owners.as_mut_ptr(), lent.owners.len(),
                     lent.answer.as_mut_ptr(), lent.answer.len(),
-                    $($number,)* $($text.as_ptr(), $text.len(),)?
+                    $($number,)* $($text.as_ptr(), $text.len(),)? $($buffer.as_mut_ptr(), $buffer.len(),)?
                 )
             }
         })*
@@ -60,4 +61,16 @@ calls! {
     release is szk_release(area, frame, count, device);
     device_store is szk_device_store(frame, word, device);
     device_read is szk_device_read(frame, device);
+    report is szk_report() into buffer;
+}
+
+extern "C" {
+    fn szk_since(later: u32, earlier: u32) -> u32;
+}
+
+/// How much a counter has counted from an earlier reading to a later one. It is right where that is less than 2^32
+/// and no boot was accepted between.
+pub fn since(later: u32, earlier: u32) -> u32 {
+    // SAFETY: the function takes and gives numbers alone.
+    unsafe { szk_since(later, earlier) }
 }

@@ -9,6 +9,8 @@
 pub mod lent;
 pub mod refusal;
 
+pub use lent::since;
+
 use lent::Lent;
 
 /// What a call answers: a refusal's number, or `refusal::DONE`, and two numbers.
@@ -17,6 +19,13 @@ pub struct Answer {
     pub refusal: u64,
     pub first: u64,
     pub second: u64,
+}
+
+/// What a report gives: its answer, and the lines that it has written, of which there are none if it is refused.
+#[derive(Clone, Copy, Debug, PartialEq, Eq)]
+pub struct Report<'a> {
+    pub answer: Answer,
+    pub lines: &'a [u8],
 }
 
 /// The four tables lent to a call: a mark and a content word for each frame, the bitmap words, and for each frame the device that owns it, 0
@@ -57,8 +66,14 @@ impl Machine {
     /// How many area records there are.
     pub const AREAS: usize = 64;
 
-    /// Numbers of a record: the base, the frames, the order, the areas declared, and three for each area.
-    pub const NUMBERS: usize = 4 + 3 * Machine::AREAS;
+    /// Numbers of a record: the base, the frames, the order, the areas declared, both counters, and three for each area.
+    pub const NUMBERS: usize = Machine::AREAS_START + 3 * Machine::AREAS;
+
+    /// Where the areas' numbers begin.
+    const AREAS_START: usize = 5;
+
+    /// A buffer of so many bytes is long enough for every report.
+    pub const REPORT_ENOUGH: usize = 2_048;
 
     /// A fresh record is all zeros; every call but boot refuses it.
     pub const fn fresh() -> Machine {
@@ -85,9 +100,19 @@ impl Machine {
         self.numbers[3]
     }
 
+    /// How many grants were done since the boot. After 4,294,967,295 it goes on from 0; `since` tells the difference of two readings.
+    pub fn granted(&self) -> u32 {
+        self.numbers[4] as u32
+    }
+
+    /// How many grants were refused since the boot for another reason than the shape. It goes on from 0 likewise.
+    pub fn refused(&self) -> u32 {
+        (self.numbers[4] >> 32) as u32
+    }
+
     /// All area records, those in use first.
     pub fn areas(&self) -> [Area; Machine::AREAS] {
-        let at = |i: usize| 4 + 3 * i;
+        let at = |i: usize| Machine::AREAS_START + 3 * i;
         std::array::from_fn(|i| Area {
             base: self.numbers[at(i)],
             count: self.numbers[at(i) + 1],
@@ -173,5 +198,11 @@ impl Machine {
     /// Reads the word of a granted frame that is the device's own. Answers it and 0.
     pub fn device_read(&mut self, t: &mut Tables, frame: u64, device: u64) -> Answer {
         self.call(t, |lent| lent::device_read(lent, frame, device))
+    }
+
+    /// Writes the memory report to the front of a buffer. Answers its length and 0, and gives the lines back.
+    pub fn report<'b>(&mut self, t: &mut Tables, buffer: &'b mut [u8]) -> Report<'b> {
+        let answer = self.call(t, |lent| lent::report(lent, buffer));
+        Report { answer, lines: &buffer[..answer.first as usize] }
     }
 }

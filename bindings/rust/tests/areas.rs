@@ -52,7 +52,7 @@ fn crowded(rng: &mut Rng, frames: u64, longest: u64, free: u64) -> State {
     let marks: Vec<u32> = (0..frames).map(mark).collect();
     let bitmap = vec![0; machine.bitmap_words() as usize];
     let owners = (0..frames).map(|place| place as u32 % 5).collect();
-    State { machine, marks, words: (0..frames).map(|place| 77 * place).collect(), bitmap, owners }
+    State { machine, marks, words: (0..frames).map(|place| 77 * place).collect(), bitmap, owners, buffer: Vec::new() }
 }
 
 fn call(rng: &mut Rng, state: &State, name: u64) -> Call {

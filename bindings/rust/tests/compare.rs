@@ -1,8 +1,9 @@
-//! Every call of the library is held against the reference: the answer, the record and all four tables.
+//! Every call of the library is held against the reference: the answer, the record, all four tables and the buffer of a report.
 
 mod held;
 
 use held::{numbers, Held};
+use reference::calls::front;
 use reference::sample::{boot_start, call_after_boot, large_boot_start, possible_pairs, run, Rng};
 use reference::{Answer, Call, State};
 use std::collections::BTreeMap;
@@ -12,9 +13,9 @@ use szk::Machine;
 /// How often each kind of call was answered with each number.
 type Counts = BTreeMap<(u8, u64), u64>;
 
-const CALLS: [&str; 13] = [
+const CALLS: [&str; 14] = [
     "boot", "put movable", "put fixed", "drop", "pin", "unpin", "store", "read", "grant", "release", "device store",
-    "device read", "declare",
+    "device read", "declare", "report",
 ];
 
 fn print_counts(counts: &Counts) {
@@ -25,12 +26,17 @@ fn print_counts(counts: &Counts) {
     }
 }
 
+/// The first bytes of a buffer, as text.
+fn begin(buffer: &[u8]) -> String {
+    buffer[..buffer.len().min(200)].escape_ascii().to_string()
+}
+
 fn compare(held: &mut Held, before: &State, call: &Call, after: &State, expected: Answer) {
     let answer = held.make(call);
     if !held.agrees(answer, after, expected) {
         panic!(
-            "{call:?}\non {:?}, marks {:?}, bitmap {:x?}, owners {:?}\nthe library answers {answer:?} and leaves {:?}\nthe reference {expected:?} and {:?}",
-            before.machine, before.marks, before.bitmap, before.owners, held.machine, after.machine
+            "{call:?}\non {:?}, marks {:?}, bitmap {:x?}, owners {:?}\nthe library answers {answer:?} and leaves {:?}\nthe reference {expected:?} and {:?}\nthe buffers then begin {}\nand {}",
+            before.machine, before.marks, before.bitmap, before.owners, held.machine, after.machine, begin(&held.buffer), begin(&after.buffer)
         );
     }
 }
@@ -64,7 +70,7 @@ fn calls_on_any_record_and_tables() {
     println!("{} calls agree; for each call, how often it gave each number:", counts.values().sum::<u64>());
     print_counts(&counts);
     assert_eq!(counts.keys().copied().collect::<Vec<_>>(), possible_pairs());
-    assert_eq!(counts.len(), 74);
+    assert_eq!(counts.len(), 77);
     println!("all {} pairs of a call and a number that the rules allow were seen, and no other", counts.len());
     for_device.retain(|_, times| *times > 0);
     println!("of those refused with 2, for their device alone:");
@@ -132,8 +138,8 @@ fn lists_on_large_machines() {
     assert!(accepted > 200 && most_frames == 262_144 && most_areas == 64 && longest_grant > 65_536);
 }
 
-/// Makes a call on slices of any length, beyond what the wrapper lends.
-fn lend(call: &Call, lent: Lent) {
+/// Makes a call on slices of any length, beyond what the wrapper lends. The buffer is a report's.
+fn lend(call: &Call, lent: Lent, buffer: &mut [u8]) {
     match call {
         Call::Boot { base, frames, order, text } => lent::boot(lent, *base, *frames, *order, text),
         Call::PutMovable { name } => lent::put_movable(lent, *name),
@@ -152,6 +158,7 @@ fn lend(call: &Call, lent: Lent) {
             let fixed = if r.fixed { r.base | 1 << 63 } else { 0 };
             lent::declare(lent, r.base, r.size, r.limit, r.alignment, r.order, fixed)
         }
+        Call::Report { length } => lent::report(lent, front(buffer, *length)),
     }
 }
 
@@ -174,6 +181,7 @@ fn check_lengths(before: &State, call: &Call, after: &State, expected: Answer, l
             owners: &mut tables.owners,
             answer: &mut answer,
         },
+        &mut tables.buffer,
     );
     let is_made = lengths.0 >= Machine::NUMBERS && lengths.1 >= 3;
     let state = if is_made { after } else { before };
@@ -185,7 +193,8 @@ fn check_lengths(before: &State, call: &Call, after: &State, expected: Answer, l
         _ => [expected.refusal, expected.first, expected.second],
     };
     assert_eq!(answer, resized(&written, lengths.1), "{call:?} {lengths:?}");
-    assert!(tables.marks == state.marks && tables.words == state.words && tables.bitmap == state.bitmap && tables.owners == state.owners);
+    // The record is compared above, by its numbers.
+    assert!(State { machine: state.machine, ..tables } == *state, "{call:?} {lengths:?}");
 }
 
 #[test]
@@ -197,7 +206,7 @@ fn records_and_answers_of_any_length() {
         if *seen > 3 {
             return;
         }
-        // 28 numbers were a record of eight areas.
+        // 28 numbers were a record of eight areas, and 196 one without counters.
         for record in (0..=5).chain([27, 28, 29, 100]).chain(Machine::NUMBERS - 3..=Machine::NUMBERS + 3).chain([300]) {
             for answer in 0..=5 {
                 check_lengths(before, call, after, expected, (record, answer));

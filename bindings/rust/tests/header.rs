@@ -2,6 +2,7 @@
 
 use reference::machine::{kind, PAGE};
 use reference::regions::MAX_TEXT;
+use reference::report::ENOUGH;
 use reference::Machine;
 use std::collections::BTreeMap;
 use std::fs;
@@ -39,7 +40,7 @@ fn refusals_have_the_same_names_and_numbers() {
     // In C and Rust "none" would not say of what.
     library[0].0 = "DONE".to_string();
     assert_eq!(library, wrapped);
-    assert_eq!(library.len(), 22);
+    assert_eq!(library.len(), 23);
     let header = defines();
     for (name, number) in library {
         assert_eq!(header.get(&name), Some(&number), "{name}");
@@ -84,14 +85,17 @@ fn limits_kinds_and_lengths_are_the_same() {
         ("GRANT_FIRST", kind::GRANT_FIRST.into()),
         ("GRANT_LATER", kind::GRANT_LATER.into()),
         ("RECORD_NUMBERS", szk::Machine::NUMBERS as u64),
-        ("RECORD_AREAS", 4),
+        ("RECORD_COUNTERS", 4),
+        ("RECORD_AREAS", 5),
         ("AREA_NUMBERS", 3),
         ("ANSWER_NUMBERS", 3),
+        ("REPORT_ENOUGH", ENOUGH as u64),
     ];
     let header = defines();
     for (name, number) in expected {
         assert_eq!(header.get(name), Some(&number), "{name}");
     }
     assert_eq!(szk::Machine::AREAS as u64, Machine::MAX_AREAS);
+    assert_eq!(szk::Machine::REPORT_ENOUGH, ENOUGH);
     assert_eq!(header["RECORD_NUMBERS"], header["RECORD_AREAS"] + header["AREA_NUMBERS"] * header["MOST_AREAS"]);
 }

@@ -1,7 +1,7 @@
 //! The wrapper as a caller uses it.
 
 use szk::lent::{self, Lent};
-use szk::{refusal, Answer, Area, Machine, Request, Tables};
+use szk::{refusal, since, Answer, Area, Machine, Request, Tables};
 
 fn answer(refusal: u64, first: u64, second: u64) -> Answer {
     Answer { refusal, first, second }
@@ -89,6 +89,42 @@ fn a_grant_is_its_device_s_own() {
     });
 }
 
+#[test]
+fn a_report_gives_its_lines() {
+    booted(b"camera=64K@32768", |machine, t| {
+        assert_eq!(machine.grant(t, 0, 3, 0, 1), answer(0, 8, 0));
+        let (before, mut buffer) = (*machine, [b'.'; 50]);
+        let report = machine.report(t, &mut buffer);
+        assert_eq!(report.answer, answer(0, 46, 0));
+        assert_eq!(report.lines, b"CmaTotal: 64 kB\nCmaFree: 52 kB\narea 0 16 3 13\n");
+        assert_eq!(buffer[46..], *b"....");
+        buffer.fill(b'!');
+        let short = machine.report(t, &mut buffer[..45]);
+        assert_eq!((short.answer, short.lines), (answer(refusal::BUFFER_TOO_SHORT, 0, 0), &b""[..]));
+        assert_eq!((buffer, *machine), ([b'!'; 50], before));
+    });
+}
+
+#[test]
+fn grants_are_counted() {
+    booted(b"camera=64K@32768", |machine, t| {
+        assert_eq!((machine.granted(), machine.refused()), (0, 0));
+        for (count, expected) in [(3, (1, 0)), (17, (1, 1)), (0, (1, 2)), (1, (2, 2))] {
+            machine.grant(t, 0, count, 0, 1);
+            assert_eq!((machine.granted(), machine.refused()), expected);
+        }
+        machine.numbers[4] = u64::MAX;
+        assert_eq!((machine.granted(), machine.refused()), (u32::MAX, u32::MAX));
+        let earlier = *machine;
+        machine.grant(t, 0, 1, 0, 1);
+        assert_eq!((machine.granted(), machine.refused()), (0, u32::MAX));
+        machine.grant(t, 0, 17, 0, 1);
+        assert_eq!(machine.numbers[4], 0);
+        let between = [since(machine.granted(), earlier.granted()), since(machine.refused(), earlier.refused())];
+        assert_eq!(between, [1, 1]);
+    });
+}
+
 /// Boots a machine of one frame on slices of any length, and tells what its mark, its word and its owner, which were 9, are then.
 fn lent_boot(answer: &mut [u64], record: &mut [u64]) -> (u32, u64, u32) {
     let (mut marks, mut words, mut owners) = ([9], [9], [9]);
@@ -113,5 +149,5 @@ fn a_short_record_is_the_wrong_shape() {
     assert_eq!(lent_boot(&mut answer, &mut record[..Machine::NUMBERS - 1]), (9, 9, 9));
     assert_eq!((answer, record), ([refusal::WRONG_SHAPE, 0, 0, 7], [3; Machine::NUMBERS]));
     assert_eq!(lent_boot(&mut answer, &mut record), (0, 0, 0));
-    assert_eq!((answer, record[..4].to_vec()), ([0, 0, 0, 7], vec![4, 1, 0, 0]));
+    assert_eq!((answer, record[..5].to_vec()), ([0, 0, 0, 7], vec![4, 1, 0, 0, 0]));
 }

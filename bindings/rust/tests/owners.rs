@@ -1,32 +1,20 @@
 //! Devices on both sides of their limits and the fourth table's length, which replay reaches neither of, through the library and the
 //! reference: a record's device is 65,535 at most, and the replay program lends tables of the right length.
 
+mod asked;
 mod held;
 
-use held::Held;
+use asked::{ask, booted};
 use reference::machine::mark_of;
 use reference::{Call, Request, State};
 
 /// Machine A: frames 4 to 35, and area 0 of frames 8 to 23; frames 8 to 10 are granted to device 7, and 11 and 12 to device 9.
 fn machine_a() -> State {
-    let mut state = State::fresh(32, 1);
-    let boot = Call::Boot { base: 4, frames: 32, order: 2, text: b"a=64K@32768".to_vec() };
-    assert_eq!(state.apply(&boot).refusal, 0);
+    let mut state = booted(b"a=64K@32768");
     for (count, device) in [(3, 7), (2, 9)] {
         assert_eq!(state.apply(&Call::Grant { area: 0, count, align: 0, device }).refusal, 0);
     }
     state
-}
-
-/// What both answer to a call on a state; they leave the same record and the same tables, and a refusal leaves them as they were.
-fn ask(state: &mut State, call: &Call) -> (u64, u64, u64) {
-    let before = state.clone();
-    let mut held = Held::of(state);
-    let expected = state.apply(call);
-    let answer = held.make(call);
-    assert!(held.agrees(answer, state, expected), "{answer:?}, not {expected:?}: {call:?}");
-    assert!(answer.refusal == 0 || *state == before, "a refusal changes nothing: {call:?}");
-    (answer.refusal, answer.first, answer.second)
 }
 
 fn refusal(state: &State, call: &Call) -> u64 {
@@ -49,7 +37,7 @@ fn every_call() -> Vec<Call> {
     let request = Request { size: 1, ..Request::default() };
     calls.extend([Call::PutMovable { name: 1 }, Call::PutFixed { name: 1 }, Call::Drop { name: 1 }, Call::Pin { name: 1 }]);
     calls.extend([Call::Unpin { name: 1 }, Call::Store { name: 1, word: 2 }, Call::Read { name: 1 }, Call::Declare(request)]);
-    calls.push(Call::Boot { base: 4, frames: 32, order: 2, text: Vec::new() });
+    calls.extend([Call::Boot { base: 4, frames: 32, order: 2, text: Vec::new() }, Call::Report { length: 0 }]);
     calls
 }
 
@@ -84,7 +72,9 @@ fn the_first_and_the_last_device_own_frames() {
         }
         assert_eq!(ask(&mut state, &Call::Release { area: 0, frame: 13, count: 4, device }), (0, 0, 0));
         assert_eq!(ask(&mut state, &Call::DeviceRead { frame: 16, device }), (3, 0, 0));
-        assert_eq!(state, machine_a());
+        let mut expected = machine_a();
+        expected.machine.granted += 1;
+        assert_eq!(state, expected);
     }
 }
 

@@ -1,6 +1,7 @@
 pub mod Changes
 pub mod Finds
 pub mod Promises
+pub mod Rows
 pub mod Runs
 pub mod Smears
 pub mod Word

@@ -6,8 +6,10 @@ ghost use mathlib.Core.Path.{_≡_};
 ghost use Rattle.bitmap.specs.Bits.{changeBits, setBits, clearBits};
 ghost use Rattle.bitmap.specs.steps.Words.{bitsOf, changeIn, putIn};
 
+mod longest;
 mod looks;
 
+pub use longest::longest_clear;
 pub use looks::clear_bits;
 pub use looks::next_open;
 

@@ -15,6 +15,7 @@ use playback::Progress;
 use playback::Stop;
 use playback::held;
 use records::lines;
+use rules::Counters;
 use rules::Record;
 use text::writing::put_bytes;
 
@@ -95,8 +96,10 @@ fn play(
 {
     let headed = lines::put_heading(out, text);
     let record = Record::fresh();
+    let counters = Counters::zero();
     let start = Progress {
         record,
+        counters,
         at: 0,
         text: headed,
         step: 0,

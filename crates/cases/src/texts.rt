@@ -10,6 +10,7 @@ use playback::held;
 use regions::MOST_REGIONS;
 use regions::Region;
 use regions::Regions;
+use rules::Counters;
 use rules::Record;
 use text::writing::put_bytes;
 use text::writing::put_number;
@@ -116,7 +117,8 @@ fn put_boot(
     let fresh = Record::fresh();
     let memory = fresh.memory;
     let mut areas = fresh.areas;
-    let machine = Machine { memory };
+    let counters = Counters::zero();
+    let machine = Machine { memory, counters };
     let returned = machine.boot(
         &mut areas,
         marks,

@@ -9,7 +9,7 @@ use lib.Dec.{eqb}
 use borrow.Author.Tests.{eq-eqb, ne-eqb}
 use Rattle.search.proofs.Bools.{below-or-not, and-false-right}
 use Rattle.frames.specs.Scans.{marked, hasField}
-use Rattle.frames.specs.Marks.{hasKind, isPageOf, canLeave, movable, pinned, fixed}
+use Rattle.frames.specs.Marks.{hasKind, isPageOf, canLeave, isGranted, movable, pinned, fixed}
 
 module _ (name mark : ℕ) where
   -- kinds 1, 2 and 3 are pages
@@ -39,6 +39,14 @@ module _ (mark : ℕ) where
 
   pub stays : 1 < mark % 8 → canLeave mark ≡ false
   stays h = let k = mark % 8 in rw (ne-eqb k 0 (λ e. omega arith), ne-eqb k 1 (λ e. omega arith))
+
+  pub granted : 4 ≤ mark % 8 → mark % 8 ≤ 5 → isGranted mark ≡ true
+  granted a b =
+      let k = mark % 8 in
+      below-or-not k 5 (λ h. rw (eq-eqb k 4 (omega arith))) (λ h. rw (ne-eqb k 4 (λ e. omega arith), eq-eqb k 5 (omega arith)))
+
+  pub not-granted : (mark % 8 ≡ 4 → ⊥) → (mark % 8 ≡ 5 → ⊥) → isGranted mark ≡ false
+  not-granted a b = let k = mark % 8 in rw (ne-eqb k 4 a, ne-eqb k 5 b)
 
 -- a mark past the end reads 0
 pub past-end : (test : ℕ → Bool) (marks : List ℕ) (k : ℕ) → length marks ≤ k → marked test marks k ≡ test 0

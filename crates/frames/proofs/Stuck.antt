@@ -1,5 +1,6 @@
 -- The scans for a kind, in the rules' words. Assumes nothing.
 --     seek-free     a mark with none of the kind's bits is free
+--     no-bits, count-movable, count-granted    a count by the kind's bits: a mark past the end has none; the movable, a grant's
 --     stuck-none, stuck-low, stuck-found, stuck-left    the first place of a range that is neither free nor movable
 use Prim.Native.Nat.{ℕ, _+_, _-_, _*_, _/_, _%_, _≤_, _<_, min}
 use native.Mathlib.Omega.{arith}
@@ -8,16 +9,17 @@ use mathlib.Core.Bool.{Bool, true, false, not}
 use mathlib.Core.List.{List}
 use native.Mathlib.Nat.{mod-lt}
 use lib.Arith.{mod-mul}
-use lib.Bits.{bitAnd, and-mask, and-high}
+use lib.Bits.{bitAnd, and-zero-l, and-mask, and-high}
 use lib.Dec.{eqb}
 use lib.ListN.{length, getD}
-use borrow.Author.Tests.{eq-eqb, ne-eqb}
-use Rattle.search.specs.Search.{lowestFrom, lowest}
-use Rattle.search.proofs.Bools.{below-or-not}
+use borrow.Author.Tests.{eq-eqb, ne-eqb, eqb-true, eqb-false}
+use Rattle.search.specs.Search.{lowestFrom, lowest, howMany}
+use Rattle.search.proofs.Bools.{by-cases, below-or-not}
 use Rattle.search.proofs.Lowest.{Least, lowest-least, lowest-cong, found-is, found-none}
-use Rattle.frames.specs.Marks.{hasKind, free, canLeave}
-use Rattle.frames.specs.Scans.{marked, hasBits}
-use Rattle.frames.proofs.MarkFacts.{leaves, stays, past-end}
+use Rattle.search.proofs.Counts.{many-cong}
+use Rattle.frames.specs.Marks.{hasKind, free, movable, canLeave, isGranted}
+use Rattle.frames.specs.Scans.{marked, hasBits, bitsAre}
+use Rattle.frames.proofs.MarkFacts.{leaves, stays, granted, not-granted, past-end}
 
 free-seen : (mark : ℕ) → hasBits false 7 mark ≡ hasKind free mark
 unfolding hasBits
@@ -26,14 +28,44 @@ free-seen mark = ap (λ (x : ℕ). eqb x 0) (and-mask mark 3)
 pub seek-free : (marks : List ℕ) (i d : ℕ) → lowestFrom (marked (hasBits false 7) marks) i d ≡ lowestFrom (marked (hasKind free) marks) i d
 seek-free marks i d = lowest-cong (marked (hasBits false 7) marks) (marked (hasKind free) marks) i d (λ k a b. free-seen (getD marks k 0))
 
+-- the upper two bits of a kind, and the lowest
+record KindBits (mark : ℕ) : Type 0 where
+  upper : bitAnd mark 6 ≡ mark / 2 % 4 * 2
+  parts : mark % 8 ≡ mark / 2 % 4 * 2 + mark % 2
+  low : mark % 2 < 2
+
+kind-bits : (mark : ℕ) → KindBits mark
+kind-bits mark = record { upper = and-high mark 2 1; parts = mod-mul mark {m = 4} {c = 2} (omega arith) (omega arith); low = mod-lt mark (omega arith) }
+
 stuck-seen : (mark : ℕ) → hasBits true 6 mark ≡ not (canLeave mark)
 unfolding hasBits
 stuck-seen mark =
-    let k = mark % 8 in
-    let upper : bitAnd mark 6 ≡ mark / 2 % 4 * 2 = and-high mark 2 1 in
-    let parts : mark % 8 ≡ mark / 2 % 4 * 2 + mark % 2 = mod-mul mark {m = 4} {c = 2} (omega arith) (omega arith) in
-    let odd : mark % 2 < 2 = mod-lt mark (omega arith) in
-    below-or-not 1 k (λ l. ap not (ne-eqb (bitAnd mark 6) 0 (λ e. omega arith) ∙ sym (stays mark l))) (λ l. ap not (eq-eqb (bitAnd mark 6) 0 (omega arith) ∙ sym (leaves mark l)))
+    let b = kind-bits mark in
+    below-or-not 1 (mark % 8) (λ l. ap not (ne-eqb (bitAnd mark 6) 0 (λ e. omega arith) ∙ sym (stays mark l)))
+    (λ l. ap not (eq-eqb (bitAnd mark 6) 0 (omega arith) ∙ sym (leaves mark l)))
+
+pub no-bits : (mask kind : ℕ) → 0 < kind → bitsAre mask kind 0 ≡ false
+unfolding bitsAre
+no-bits mask kind h = ne-eqb (bitAnd 0 mask) kind (λ e. omega (arith, and-zero-l mask))
+
+movable-seen : (mark : ℕ) → bitsAre 7 1 mark ≡ hasKind movable mark
+unfolding bitsAre
+movable-seen mark = ap (λ (x : ℕ). eqb x 1) (and-mask mark 3)
+
+granted-seen : (mark : ℕ) → bitsAre 6 4 mark ≡ isGranted mark
+unfolding bitsAre
+granted-seen mark =
+    let b = kind-bits mark in
+    by-cases (eqb (bitAnd mark 6) 4)
+    (λ t. let is = eqb-true (bitAnd mark 6) 4 t in t ∙ sym (granted mark (omega arith) (omega arith)))
+    (λ f. let is-not = eqb-false (bitAnd mark 6) 4 f in f ∙ sym (not-granted mark (λ e. is-not (omega arith)) (λ e. is-not (omega arith))))
+
+module _ (marks : List ℕ) (i d : ℕ) where
+  pub count-movable : howMany (marked (bitsAre 7 1) marks) i d ≡ howMany (marked (hasKind movable) marks) i d
+  count-movable = many-cong (marked (bitsAre 7 1) marks) (marked (hasKind movable) marks) i d (λ k a b. movable-seen (getD marks k 0))
+
+  pub count-granted : howMany (marked (bitsAre 6 4) marks) i d ≡ howMany (marked isGranted marks) i d
+  count-granted = many-cong (marked (bitsAre 6 4) marks) (marked isGranted marks) i d (λ k a b. granted-seen (getD marks k 0))
 
 -- the places from `from` on, of which the marks have those up to `end`
 module _ (marks : List ℕ) (from count end : ℕ) (e : end ≡ min (from + count) (length marks)) where

@@ -19,6 +19,10 @@ marked test marks i = test (getD marks i 0)
 unfoldable pub hasBits : Bool → ℕ → ℕ → Bool
 hasBits any mask mark = if any then not (eqb (bitAnd mark mask) 0) else eqb (bitAnd mark mask) 0
 
+-- of the bits of a mask the mark has just those of a kind
+unfoldable pub bitsAre : ℕ → ℕ → ℕ → Bool
+bitsAre mask kind mark = eqb (bitAnd mark mask) kind
+
 abbrev pub hasField : ℕ → ℕ → Bool
 hasField field mark = eqb (fieldOf mark) field
 

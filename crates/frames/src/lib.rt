@@ -14,6 +14,7 @@ pub use fills::fill_numbers;
 pub use fills::fill_places;
 pub use fills::fill_words;
 pub use marks::are_later;
+pub use marks::count_granted;
 pub use marks::count_movable;
 pub use marks::find_free;
 pub use marks::find_free_ordinary;

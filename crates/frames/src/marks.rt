@@ -1,7 +1,7 @@
 // Scans of the marks. A long scan goes by blocks of 32: whether a block can hold what is sought is asked of all 32 with no exit between
 // them, which the compiler turns into vector instructions, and only a block that can is looked through place by place. `stuck_in` looks at
-// the first few places so before.
-ghost use Prim.Native.Nat.{_≤_, _+_, _-_, min};
+// the first few places so before. A count has no exit at all, and its one loop becomes vector instructions as it stands.
+ghost use Prim.Native.Nat.{_≤_, _<_, _+_, _-_, min};
 ghost use mathlib.Core.Path.{_≡_};
 ghost use mathlib.Core.Bool.{true, not};
 ghost use lib.Dec.{leb};
@@ -9,8 +9,8 @@ ghost use lib.ListN.{length};
 ghost use Rattle.search.specs.Choice.{if_then_else_};
 ghost use Rattle.search.specs.Search.{lowest, lowestFrom, some, every, howMany};
 ghost use Rattle.frames.specs.Units.{place};
-ghost use Rattle.frames.specs.Marks.{hasKind, isPageOf, canLeave, free, movable, later};
-ghost use Rattle.frames.specs.Scans.{marked, hasBits, hasField, isFreeOrdinary};
+ghost use Rattle.frames.specs.Marks.{hasKind, isPageOf, canLeave, isGranted, free, movable, later};
+ghost use Rattle.frames.specs.Scans.{marked, hasBits, bitsAre, hasField, isFreeOrdinary};
 ghost use Rattle.frames.specs.Areas.{mostAreas};
 ghost use Rattle.frames.specs.Walk.{NextFree};
 ghost use Rattle.frames.specs.steps.Stretches.{FindsFree};
@@ -19,6 +19,7 @@ use crate::Place;
 use crate::fills::range_end;
 use crate::kinds::FIXED;
 use crate::kinds::FREE;
+use crate::kinds::HEAD;
 use crate::kinds::LATER;
 use crate::kinds::MOVABLE;
 use crate::order::Order;
@@ -129,6 +130,9 @@ pub fn find_page(marks: &[u32], name: u64) -> Place
 const KIND_BITS: u32 = 7;
 
 const STUCK_BITS: u32 = 6;
+
+// Of these two bits of the kind a grant's frames have the upper alone; its first frame and a later one differ in the third, the lowest.
+const GRANT_BITS: u32 = 6;
 
 // The mark has a bit of the mask or, where `any` is false, none.
 fn has_bits(mark: u32, mask: u32, any: bool) -> bool
@@ -254,28 +258,43 @@ pub fn are_later(marks: &[u32], from: Place, count: u64) -> bool
     true
 }
 
-// How many of the `count` places from `from` on are movable.
-pub fn count_movable(marks: &[u32], from: Place, count: u64) -> u64
-    ensures { λ r. ⌜ r ≡ howMany (marked (hasKind movable) (now (marks .entry))) (from .0) count ⌝ }
+// 1 for a mark that of the mask's bits has just those of the kind, else 0.
+fn is_kind(mark: u32, mask: u32, kind: u32) -> u64
+    ensures { λ r. ⌜ r ≡ (if bitsAre mask kind mark then 1 else 0) ⌝ }
+{
+    if mark & mask == kind {
+        return 1;
+    }
+    0
+}
+
+// How many of the `count` places from `from` on have such a mark. The kind is not that of a free one, which a mark past the end reads as.
+fn count_kind(marks: &[u32], mask: u32, kind: u32, from: Place, count: u64) -> u64
+    requires { ⌜ 0 < kind ⌝ }
+    ensures { λ r. ⌜ r ≡ howMany (marked (bitsAre mask kind) (now (marks .entry))) (from .0) count ⌝ }
 {
     let end = range_end(from.0, count, marks.len());
     let mut found = 0;
     let mut i = from.0;
     while i < end {
-        found += is_movable(marks[i]);
+        found += is_kind(marks[i], mask, kind);
         i += 1;
     }
     found
 }
 
-// 1 for a movable page's mark, else 0.
-fn is_movable(mark: u32) -> u64
-    ensures { λ r. ⌜ r ≡ (if hasKind movable mark then 1 else 0) ⌝ }
+// How many of the `count` places from `from` on are movable.
+pub fn count_movable(marks: &[u32], from: Place, count: u64) -> u64
+    ensures { λ r. ⌜ r ≡ howMany (marked (hasKind movable) (now (marks .entry))) (from .0) count ⌝ }
 {
-    if mark % 8 == MOVABLE {
-        return 1;
-    }
-    0
+    count_kind(marks, KIND_BITS, MOVABLE, from, count)
+}
+
+// How many of them are a grant's, its first frame or a later one.
+pub fn count_granted(marks: &[u32], from: Place, count: u64) -> u64
+    ensures { λ r. ⌜ r ≡ howMany (marked isGranted (now (marks .entry))) (from .0) count ⌝ }
+{
+    count_kind(marks, GRANT_BITS, HEAD, from, count)
 }
 
 // The lowest free place from `from` on that is in none of the areas of an order, in a table that begins at frame `base`, and the end of the

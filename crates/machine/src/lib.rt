@@ -1,27 +1,30 @@
 // The machine record's calls, as methods by value, and one function that performs any of them.
 //
-// Each takes any record, any numbers, any text and any tables, and hands the next record back with the answer: its memory by value, and the
-// numbers of its areas where they were lent, so that no call but a boot, which plans in numbers of its own, copies them. A refused call has changed
-// nothing. What a call does stands in `page_calls`, `device_calls` and `setup`.
-ghost use Rattle.rules.specs.PageCalls.{putMovable, putFixed, dropPage, pinPage, unpinPage, storePage, readPage};
-ghost use Rattle.rules.specs.DeviceCalls.{grant, release, deviceStore, deviceRead};
-ghost use Rattle.rules.specs.Declare.{declare};
-ghost use Rattle.rules.specs.Boot.{boot};
-ghost use Rattle.rules.specs.Calls.{perform};
-ghost use Rattle.rules.specs.Does.{withAllAreas};
-ghost use Rattle.machine.specs.Does.{Does};
+// Each takes any record, any numbers, any text and any tables, and hands the next record back with the answer: its memory and its counters by value,
+// and the numbers of its areas where they were lent, so that no call but a boot, which plans in numbers of its own, copies them. A refused call has
+// changed nothing, but that a grant counts. What a call does stands in `page_calls`, `device_calls`, `setup` and `report`; the counters are looked
+// after here.
+ghost use mathlib.Core.Path.{_≡_};
+ghost use mathlib.Core.List.{[]};
+ghost use Rattle.frames.specs.Lent.{entering};
+ghost use Rattle.rules.specs.declared.Call.the-variants as Call;
+ghost use Rattle.rules.specs.Report.{reported};
+ghost use Rattle.rules.specs.Does.{given};
+ghost use Rattle.machine.specs.Does.{Does, DoesWithAll, beside, bufferAfter};
 use answer::Answer;
 use answer::refusal;
 use frames::Frame;
 use rules::Call;
+use rules::Counters;
 use rules::Memory;
 use rules::Record;
 use rules::Request;
 
 // A machine is its record, but for the numbers of its areas, which are lent beside the tables. Methods can only stand in the crate of their
-// type, and the memory's own type stands below the rules that are stated of it; so the calls are methods of this one, which holds nothing else.
+// type, and those of the memory and the counters stand below the rules that are stated of them; so the calls are methods of this one.
 pub struct Machine {
     pub memory: Memory,
+    pub counters: Counters,
 }
 
 // What a call hands back: the next record, with the areas as they were left, and the answer.
@@ -41,7 +44,7 @@ impl Machine {
         owners: &mut [u32],
         name: u64,
     ) -> Returned
-        ensures { λ r. ⌜ Does (λ m. putMovable m name) self areas r marks words bitmap owners ⌝ }
+        ensures { λ r. ⌜ Does (Call.PutMovable name) [] self areas r marks words bitmap owners ⌝ }
     {
         let answer = page_calls::put_movable(
             self.memory,
@@ -68,7 +71,7 @@ impl Machine {
         owners: &mut [u32],
         name: u64,
     ) -> Returned
-        ensures { λ r. ⌜ Does (λ m. putFixed m name) self areas r marks words bitmap owners ⌝ }
+        ensures { λ r. ⌜ Does (Call.PutFixed name) [] self areas r marks words bitmap owners ⌝ }
     {
         let answer = page_calls::put_fixed(self.memory, areas, marks, words, bitmap, owners, name);
         Returned {
@@ -87,7 +90,7 @@ impl Machine {
         owners: &mut [u32],
         name: u64,
     ) -> Returned
-        ensures { λ r. ⌜ Does (λ m. dropPage m name) self areas r marks words bitmap owners ⌝ }
+        ensures { λ r. ⌜ Does (Call.Drop name) [] self areas r marks words bitmap owners ⌝ }
     {
         let answer = page_calls::drop_page(self.memory, areas, marks, words, bitmap, owners, name);
         Returned {
@@ -106,7 +109,7 @@ impl Machine {
         owners: &mut [u32],
         name: u64,
     ) -> Returned
-        ensures { λ r. ⌜ Does (λ m. pinPage m name) self areas r marks words bitmap owners ⌝ }
+        ensures { λ r. ⌜ Does (Call.Pin name) [] self areas r marks words bitmap owners ⌝ }
     {
         let answer = page_calls::pin_page(self.memory, areas, marks, words, bitmap, owners, name);
         Returned {
@@ -125,7 +128,7 @@ impl Machine {
         owners: &mut [u32],
         name: u64,
     ) -> Returned
-        ensures { λ r. ⌜ Does (λ m. unpinPage m name) self areas r marks words bitmap owners ⌝ }
+        ensures { λ r. ⌜ Does (Call.Unpin name) [] self areas r marks words bitmap owners ⌝ }
     {
         let answer = page_calls::unpin_page(self.memory, areas, marks, words, bitmap, owners, name);
         Returned {
@@ -145,7 +148,7 @@ impl Machine {
         name: u64,
         word: u64,
     ) -> Returned
-        ensures { λ r. ⌜ Does (λ m. storePage m name word) self areas r marks words bitmap owners ⌝ }
+        ensures { λ r. ⌜ Does (Call.Store name word) [] self areas r marks words bitmap owners ⌝ }
     {
         let answer = page_calls::store_page(
             self.memory,
@@ -173,7 +176,7 @@ impl Machine {
         owners: &mut [u32],
         name: u64,
     ) -> Returned
-        ensures { λ r. ⌜ Does (λ m. readPage m name) self areas r marks words bitmap owners ⌝ }
+        ensures { λ r. ⌜ Does (Call.Read name) [] self areas r marks words bitmap owners ⌝ }
     {
         let answer = page_calls::read_page(self.memory, areas, marks, words, bitmap, owners, name);
         Returned {
@@ -182,7 +185,7 @@ impl Machine {
         }
     }
 
-    // The lowest run that can be granted is the device's, and its movable pages stand elsewhere.
+    // The lowest run that can be granted is the device's, and its movable pages stand elsewhere. It is counted.
     pub fn grant(
         self,
         areas: &mut [u64],
@@ -195,7 +198,7 @@ impl Machine {
         align: u64,
         device: u64,
     ) -> Returned
-        ensures { λ r. ⌜ Does (λ m. grant m area count align device) self areas r marks words bitmap owners ⌝ }
+        ensures { λ r. ⌜ Does (Call.Grant area count align device) [] self areas r marks words bitmap owners ⌝ }
     {
         let answer = device_calls::grant(
             self.memory,
@@ -209,10 +212,10 @@ impl Machine {
             align,
             device,
         );
-        Returned {
-            machine: self,
-            answer,
-        }
+        let counters = self.counters.after_grant(answer.refusal);
+        let memory = self.memory;
+        let machine = Machine { memory, counters };
+        Returned { machine, answer }
     }
 
     // A grant ends, by its owner: its frames are free, and its bits clear.
@@ -228,7 +231,7 @@ impl Machine {
         count: u64,
         device: u64,
     ) -> Returned
-        ensures { λ r. ⌜ Does (λ m. release m area frame count device) self areas r marks words bitmap owners ⌝ }
+        ensures { λ r. ⌜ Does (Call.Release area frame count device) [] self areas r marks words bitmap owners ⌝ }
     {
         let answer = device_calls::release(
             self.memory,
@@ -260,7 +263,7 @@ impl Machine {
         word: u64,
         device: u64,
     ) -> Returned
-        ensures { λ r. ⌜ Does (λ m. deviceStore m frame word device) self areas r marks words bitmap owners ⌝ }
+        ensures { λ r. ⌜ Does (Call.DeviceStore frame word device) [] self areas r marks words bitmap owners ⌝ }
     {
         let answer = device_calls::device_store(
             self.memory,
@@ -290,7 +293,7 @@ impl Machine {
         frame: Frame,
         device: u64,
     ) -> Returned
-        ensures { λ r. ⌜ Does (λ m. deviceRead m frame device) self areas r marks words bitmap owners ⌝ }
+        ensures { λ r. ⌜ Does (Call.DeviceRead frame device) [] self areas r marks words bitmap owners ⌝ }
     {
         let answer = device_calls::device_read(
             self.memory,
@@ -319,12 +322,13 @@ impl Machine {
         owners: &mut [u32],
         request: Request,
     ) -> Returned
-        ensures { λ r. ⌜ Does (withAllAreas (λ m. declare m request)) self areas r marks words bitmap owners ⌝ }
+        ensures { λ r. ⌜ DoesWithAll (Call.Declare request) [] self areas r marks words bitmap owners ⌝ }
     {
         let laid = setup::declare(self.memory, areas, marks, words, bitmap, owners, request);
         let memory = laid.memory;
         let answer = laid.answer;
-        let machine = Machine { memory };
+        let counters = self.counters;
+        let machine = Machine { memory, counters };
         Returned { machine, answer }
     }
 
@@ -342,7 +346,7 @@ impl Machine {
         block_order: u64,
         text: &[u8],
     ) -> Returned
-        ensures { λ r. ⌜ Does (withAllAreas (λ m. boot m (base .0) frames «block_order» (now (text .entry)))) self areas r marks words bitmap owners ⌝ }
+        ensures { λ r. ⌜ DoesWithAll (Call.Boot base frames «block_order») (now (text .entry)) self areas r marks words bitmap owners ⌝ }
     {
         let laid = setup::boot(
             self.memory,
@@ -358,12 +362,33 @@ impl Machine {
         );
         let memory = laid.memory;
         let answer = laid.answer;
-        let machine = Machine { memory };
+        let counters = self.counters.after_boot(answer.refusal);
+        let machine = Machine { memory, counters };
         Returned { machine, answer }
     }
 
-    // Any call. The text is a boot's, and no other call reads it. Since it may be a declare or a boot, the numbers of all areas are to
-    // be lent.
+    // The lines of the memory report, at the front of a buffer that has room for them.
+    pub fn report(
+        self,
+        areas: &mut [u64],
+        marks: &mut [u32],
+        words: &mut [u64],
+        bitmap: &mut [u64],
+        owners: &mut [u32],
+        buffer: &mut [u8],
+    ) -> Returned
+        ensures { λ r. ⌜ Does Call.Report (now (buffer .entry)) self areas r marks words bitmap owners ⌝ }
+        ensures { λ r. ⌜ now (buffer .exit) ≡ reported (given (self .memory) areas) (now (buffer .entry)) (entering marks words bitmap owners) ⌝ }
+    {
+        let answer = report::report(self.memory, areas, marks, words, bitmap, owners, buffer);
+        Returned {
+            machine: self,
+            answer,
+        }
+    }
+
+    // Any call. The text is a boot's and the buffer a report's, and no other call looks at them. Since it may be a declare or a boot, the numbers
+    // of all areas are to be lent.
     pub fn perform(
         self,
         areas: &mut [u64],
@@ -373,8 +398,10 @@ impl Machine {
         owners: &mut [u32],
         call: Call,
         text: &[u8],
+        buffer: &mut [u8],
     ) -> Returned
-        ensures { λ r. ⌜ Does (withAllAreas (perform call (now (text .entry)))) self areas r marks words bitmap owners ⌝ }
+        ensures { λ r. ⌜ DoesWithAll call (beside call (now (text .entry)) (now (buffer .entry))) self areas r marks words bitmap owners ⌝ }
+        ensures { λ r. ⌜ now (buffer .exit) ≡ bufferAfter call (now (buffer .entry)) (given (self .memory) areas) (entering marks words bitmap owners) ⌝ }
     {
         if areas.len() != Record::AREA_NUMBERS {
             return Returned {
@@ -450,6 +477,7 @@ impl Machine {
                 block_order,
                 text,
             ),
+            Call::Report => self.report(areas, marks, words, bitmap, owners, buffer),
         }
     }
 }

@@ -18,14 +18,15 @@ use Rattle.search.proofs.Bools.{and-left, and-right}
 use Rattle.frames.specs.Tables.{Tables, tables}
 use Rattle.machine.specs.declared.Returned.{Returned}
 use Rattle.rules.specs.declared.Call.{Call}
+use Rattle.rules.specs.declared.Counters.{Counters}
+use Rattle.rules.specs.Counters.{counted}
 use Rattle.rules.specs.Outcomes.{Outcome, outcome}
 use Rattle.rules.specs.Does.{recordWith}
 use Rattle.records.specs.declared.Decoded.{Decoded}
 use Rattle.records.specs.declared.Decoded.the-variants.{Whole, Unknown, Cut}
 use Rattle.records.specs.Records.{decodeAt}
-use Rattle.text.specs.Writing.{Appended, hasRoom, written}
-use Rattle.records.specs.Lines.{lineOf}
-use Rattle.records.proofs.Texts.{line-most}
+use Rattle.text.specs.Writing.{fourNumbers, Appended, hasRoom, written}
+use Rattle.text.proofs.Texts.{four-most}
 use Rattle.records.proofs.Decoding.{whole-within}
 use Rattle.playback.specs.declared.Progress.{Progress}
 use Rattle.playback.specs.declared.Stop.the-variants as Stop
@@ -42,31 +43,33 @@ pub step-left : (size text step : ℕ) → hasRoomFor size text step ≡ true �
 unfolding hasRoomFor
 step-left size text step h = ltb-true step lastStep (and-right (leb (text + room) size) (ltb step lastStep) h)
 
-pub line-has-room : (out : List ℕ) (p : Progress) (a b c : ℕ) → hasRoomFor (length out) (p .text) (p .step) ≡ true → hasRoom out (p .text) (lineOf (p .step) a b c) ≡ true
+pub line-has-room : (out : List ℕ) (p : Progress) (a b c : ℕ) → hasRoomFor (length out) (p .text) (p .step) ≡ true → hasRoom out (p .text) (fourNumbers (p .step) a b c) ≡ true
 unfolding hasRoom
 line-has-room out p a b c h =
     let l = room-left (length out) (p .text) (p .step) h in
-    le-leb (p .text + length (lineOf (p .step) a b c)) (length out) (omega (arith, line-most (p .step) a b c))
+    le-leb (p .text + length (fourNumbers (p .step) a b c)) (length out) (omega (arith, four-most (p .step) a b c))
 
-after-line : (p : Progress) (size next : ℕ) (after : List ℕ) (o : Outcome) → Playing
-after-line p size next after o = playing (record { «record» = o .machine; at = p .at + size; text = next; step = p .step + 1 }) after (o .left)
+after-line : (p : Progress) (c : Counters) (size next : ℕ) (after : List ℕ) (o : Outcome) → Playing
+after-line p c size next after o = playing (record { «record» = o .machine; counters = c; at = p .at + size; text = next; step = p .step + 1 }) after (o .left)
 
 pub one-answered :
     (p : Progress) (out : List ℕ) (t : Tables) (r : Call) (size : ℕ) (o : Returned) (areas marks words bitmap owners after : List ℕ) (next : ℕ)
     → hasRoomFor (length out) (p .text) (p .step) ≡ true
     → outcome (recordWith (o .machine .memory) areas) (o .answer) (tables marks words bitmap owners) ≡ answerTo r (p .«record») t
-    → Appended out (p .text) (lineOf (p .step) (o .answer .refusal) (o .answer .first) (o .answer .second)) after next
-    → playing (record { «record» = recordWith (o .machine .memory) areas; at = p .at + size; text = next; step = p .step + 1 }) after (tables marks words bitmap owners)
+    → o .machine .counters ≡ counted r (o .answer .refusal) (p .counters)
+    → Appended out (p .text) (fourNumbers (p .step) (o .answer .refusal) (o .answer .first) (o .answer .second)) after next
+    → playing (record { «record» = recordWith (o .machine .memory) areas; counters = o .machine .counters; at = p .at + size; text = next; step = p .step + 1 }) after (tables marks words bitmap owners)
     ≡ answerOne (playing p out t) r size
 unfolding answerOne after-line
-one-answered p out t r size o areas marks words bitmap owners after next h e a =
+one-answered p out t r size o areas marks words bitmap owners after next h e k a =
     let fits = line-has-room out p (o .answer .refusal) (o .answer .first) (o .answer .second) h in
     let place = rw fits at (a .place) in
     let bytes = rw fits at (a .bytes) in
     let made = outcome (recordWith (o .machine .memory) areas) (o .answer) (tables marks words bitmap owners) in
-    ap (λ (n : ℕ). after-line p size n after made) place
-    ∙ ap (λ (l : List ℕ). after-line p size (p .text + length (lineFor (p .step) (o .answer))) l made) bytes
-    ∙ ap (λ (w : Outcome). playing (progressAfter p w size) (written out (p .text) (lineFor (p .step) (w .answer))) (w .left)) e
+    ap (λ (c : Counters). after-line p c size next after made) k
+    ∙ ap (λ (n : ℕ). after-line p (counted r (o .answer .refusal) (p .counters)) size n after made) place
+    ∙ ap (λ (l : List ℕ). after-line p (counted r (o .answer .refusal) (p .counters)) size (p .text + length (lineFor (p .step) (o .answer))) l made) bytes
+    ∙ ap (λ (w : Outcome). playing (progressAfter p r w size) (written out (p .text) (lineFor (p .step) (w .answer))) (w .left)) e
 
 pub one-at : (s : Playing) (r : Call) (size : ℕ) → answerOne s r size .progress .at ≡ s .progress .at + size
 unfolding answerOne

@@ -12,13 +12,13 @@ use Rattle.rules.specs.declared.Call.{Call}
 use Rattle.rules.specs.declared.Memory.{Memory}
 use Rattle.rules.specs.declared.Record.{Record}
 use Rattle.rules.specs.Outcomes.{Outcome, outcome, refuse}
+use Rattle.rules.specs.Counters.{counted}
 use Rattle.rules.specs.Calls.{perform}
 use Rattle.rules.specs.ledger.Roles.{roleOf}
 use Rattle.records.specs.declared.Decoded.{Decoded}
 use Rattle.records.specs.declared.Decoded.the-variants.{Whole, Unknown, Cut}
 use Rattle.records.specs.Records.{decodeAt}
-use Rattle.text.specs.Writing.{written}
-use Rattle.records.specs.Lines.{lineOf}
+use Rattle.text.specs.Writing.{fourNumbers, written}
 use Rattle.playback.specs.declared.Progress.{Progress}
 use Rattle.playback.specs.declared.Stop.{Stop}
 use Rattle.playback.specs.declared.Stop.the-variants as Stop
@@ -39,8 +39,8 @@ abbrev pub withEntries : ℕ → Tables → Tables → Tables
 withEntries n t left =
     tables (left .marks ++ drop n (t .marks)) (left .words ++ drop n (t .words)) (left .bitmap) (left .owners ++ drop n (t .owners))
 
--- what a record's call is answered: 1 where the tables hold fewer entries than frames; else it is made, lent an entry for each frame. A
--- boot has the empty text
+-- what a record's call is answered: 1 where the tables hold fewer entries than frames; else it is made, lent an entry for each frame and no
+-- bytes: a boot has the empty text, and no record is a report
 unfoldable pub answerTo : Call → Record → Tables → Outcome
 answerTo call m t =
     let n = framesFor (m .memory) call in
@@ -73,18 +73,24 @@ playing p out t = record { progress = p; out = out; left = t }
 
 -- a line for an answer
 abbrev pub lineFor : ℕ → Answer → List ℕ
-lineFor step a = lineOf step (a .refusal) (a .first) (a .second)
+lineFor step a = fourNumbers step (a .refusal) (a .first) (a .second)
 
--- after a record of a size: its call is made, its line written, and its step counted
-abbrev pub progressAfter : Progress → Outcome → ℕ → Progress
-progressAfter p o size =
-    record { «record» = o .machine; at = p .at + size; text = p .text + length (lineFor (p .step) (o .answer)); step = p .step + 1 }
+-- after a record of a size: its call is made and counted, its line written, and its step counted
+abbrev pub progressAfter : Progress → Call → Outcome → ℕ → Progress
+progressAfter p call o size =
+    record {
+      «record» = o .machine;
+      counters = counted call (o .answer .refusal) (p .counters);
+      at = p .at + size;
+      text = p .text + length (lineFor (p .step) (o .answer));
+      step = p .step + 1;
+    }
 
 unfoldable pub answerOne : Playing → Call → ℕ → Playing
 answerOne s call size =
     let p = s .progress in
     let o = answerTo call (p .«record») (s .left) in
-    playing (progressAfter p o size) (written (s .out) (p .text) (lineFor (p .step) (o .answer))) (o .left)
+    playing (progressAfter p call o size) (written (s .out) (p .text) (lineFor (p .step) (o .answer))) (o .left)
 
 -- what is left when no more records are answered, and why
 pub record Played : Type 0 where

@@ -10,6 +10,7 @@ use Rattle.search.specs.Choice.{if_then_else_}
 use Rattle.frames.specs.Tables.{Tables, tables}
 use Rattle.rules.specs.declared.Record.{Record}
 use Rattle.rules.specs.Record.{freshRecord}
+use Rattle.rules.specs.Counters.{noGrants}
 use Rattle.records.specs.declared.Decoded.{Decoded}
 use Rattle.records.specs.declared.Decoded.the-variants.{Whole, Unknown, Cut}
 use Rattle.records.specs.Records.{decodeAt}
@@ -69,7 +70,7 @@ textOf end = let p = end .stopped .progress in take (p .text) (end .out) ++ last
 
 -- at the start: a fresh machine, and the heading in the buffer
 abbrev pub fresh : Progress
-fresh = record { «record» = freshRecord; at = 0; text = length heading; step = 0 }
+fresh = record { «record» = freshRecord; counters = noGrants; at = 0; text = length heading; step = 0 }
 
 -- where the buffer never was too full, the records answered from the start on give the whole output
 abbrev pub WholeOutput : Type 0

@@ -3,7 +3,7 @@ ghost use mathlib.Core.Path.{_≡_};
 ghost use lib.ListN.{length};
 ghost use Rattle.answer.specs.Answers.{refused};
 ghost use Rattle.rules.specs.Limits.{mostAreaNumbers};
-ghost use Rattle.machine.specs.Does.{Does};
+ghost use Rattle.machine.specs.Does.{Makes};
 ghost use Rattle.playback.specs.Playback.{framesFor, answerTo};
 use answer::Answer;
 use answer::refusal;
@@ -47,7 +47,7 @@ pub(crate) fn answer(
     call: Call,
 ) -> Returned
     requires { ⌜ length (now areas) ≡ mostAreaNumbers ⌝ }
-    ensures { λ r. ⌜ Does (answerTo call) machine areas r marks words bitmap owners ⌝ }
+    ensures { λ r. ⌜ Makes call (answerTo call) machine areas r marks words bitmap owners ⌝ }
 {
     let frames = frames_for(machine, call);
     if (marks.len() as u64) < frames {
@@ -68,5 +68,6 @@ pub(crate) fn answer(
         &mut owners[0..n],
         call,
         b"",
+        &mut [],
     )
 }

@@ -15,9 +15,10 @@ pub mod held;
 use calls::answer;
 use machine::Machine;
 use records::Decoded;
-use records::lines;
 use rules::Call;
+use rules::Counters;
 use rules::Record;
+use text::writing::put_four;
 
 // The room that a step's line is given: it is enough for the longest, which has 84 bytes, and for the last line of an output after it,
 // which has at most 25.
@@ -26,10 +27,11 @@ const ROOM: usize = 128;
 // The last step that can be counted.
 const LAST_STEP: u64 = u64::MAX;
 
-// How far the records are answered: the machine's record, the place of the next replay record among the bytes, the length of the text so far,
-// and the number of replay records.
+// How far the records are answered: the machine's record with its counters, the place of the next replay record among the bytes, the length of the
+// text so far, and the number of replay records.
 pub struct Progress {
     pub record: Record,
+    pub counters: Counters,
     pub at: usize,
     pub text: usize,
     pub step: u64,
@@ -65,9 +67,11 @@ fn stops(p: Going, areas: [u64; Record::AREA_NUMBERS], why: Stop) -> Stopped
     ensures { λ r. ⌜ r ≡ stoppedAt (progressWith p areas) why ⌝ }
 {
     let memory = p.machine.memory;
+    let counters = p.machine.counters;
     let record = Record { memory, areas };
     let progress = Progress {
         record,
+        counters,
         at: p.at,
         text: p.text,
         step: p.step,
@@ -107,7 +111,7 @@ fn answer_one(
     let returned = answer(areas, marks, words, bitmap, owners, before, call);
     let machine = returned.machine;
     let a = returned.answer;
-    let text = lines::put_line(out, p.text, p.step, a.refusal, a.first, a.second);
+    let text = put_four(out, p.text, p.step, a.refusal, a.first, a.second);
     Going {
         machine,
         at: p.at + size,
@@ -130,7 +134,8 @@ pub fn answer_records(
 {
     let mut areas = start.record.areas;
     let memory = start.record.memory;
-    let machine = Machine { memory };
+    let counters = start.counters;
+    let machine = Machine { memory, counters };
     let mut p = Going {
         machine,
         at: start.at,

@@ -2,4 +2,3 @@ pub mod Bodies
 pub mod Decoding
 pub mod Little
 pub mod Pieces
-pub mod Texts

@@ -1,35 +1,8 @@
-// The output's lines, appended to a lent buffer. A line is written whole, or where it has no room not at all.
+// The output's lines but for a step's, which is four numbers, appended to a lent buffer. A line is written whole, or where it has no room not at all.
 ghost use Rattle.text.specs.Writing.{Appended};
-ghost use Rattle.records.specs.Lines.{lineOf, heading, badLine, endLine};
-use text::writing::digit_count;
-use text::writing::has_room;
+ghost use Rattle.records.specs.Lines.{heading, badLine, endLine};
 use text::writing::put_bytes;
-use text::writing::put_digits;
 use text::writing::put_labelled;
-
-// A step's line: the step, the refusal and the two numbers of the answer. The room of the whole line is tested before anything is written.
-pub fn put_line(
-    out: &mut [u8],
-    at: usize,
-    step: u64,
-    refusal: u64,
-    first: u64,
-    second: u64,
-) -> usize
-    ensures { λ r. ⌜ Appended (now (out .entry)) at (lineOf step refusal first second) (now (out .exit)) r ⌝ }
-{
-    let a = digit_count(step);
-    let b = digit_count(refusal);
-    let c = digit_count(first);
-    let d = digit_count(second);
-    if !has_room(out.len(), at, a + b + c + d + 4) {
-        return at;
-    }
-    let after_step = put_digits(out, at, step, a, b' ');
-    let after_refusal = put_digits(out, after_step, refusal, b, b' ');
-    let after_first = put_digits(out, after_refusal, first, c, b' ');
-    put_digits(out, after_first, second, d, b'\n')
-}
 
 // The line above all others.
 pub fn put_heading(out: &mut [u8], at: usize) -> usize

@@ -12,6 +12,7 @@ use playback::Progress;
 use playback::Stop;
 use playback::held;
 use records::lines;
+use rules::Counters;
 use rules::Record;
 
 // The bytes of a block of input, and of the text that is written for it at once.
@@ -24,6 +25,7 @@ const TURNS: u64 = 140737488355328;
 // What is kept from turn to turn.
 struct State {
     record: Record,
+    counters: Counters,
     // The turns that are left; none when the program is done.
     left: u64,
     // How many bytes of the block are filled, and the place in it of the next record.
@@ -41,6 +43,7 @@ fn start() -> State
 {
     State {
         record: Record::fresh(),
+        counters: Counters::zero(),
         left: TURNS,
         filled: 0,
         at: 0,
@@ -56,8 +59,10 @@ fn done(s: State) -> State
     ensures { λ r. ⌜ Next s r ⌝ }
 {
     let record = s.record;
+    let counters = s.counters;
     State {
         record,
+        counters,
         left: 0,
         filled: s.filled,
         at: s.at,
@@ -106,8 +111,10 @@ fn refill(input: &mut [u8], s: State) -> State
     let kept = move_to_front(input, at, filled);
     let got = read_from(input, kept);
     let record = s.record;
+    let counters = s.counters;
     State {
         record,
+        counters,
         left: s.left,
         filled: kept + got,
         at: 0,
@@ -207,8 +214,10 @@ fn turn(
 {
     let filled = s.filled;
     let before = s.record;
+    let counters_before = s.counters;
     let from = Progress {
         record: before,
+        counters: counters_before,
         at: s.at,
         text: 0,
         step: s.step,
@@ -225,8 +234,10 @@ fn turn(
     let p = stopped.progress;
     let why = stopped.why;
     let record = p.record;
+    let counters = p.counters;
     let next = State {
         record,
+        counters,
         left: s.left - 1,
         filled,
         at: p.at,

@@ -15,8 +15,9 @@ use Rattle.rules.proofs.promises.Devices.{accepted-device-store, accept
 use Rattle.rules.proofs.promises.Grants.{grant-is-first-fit}
 use Rattle.rules.proofs.promises.Pages.{accepted-put-movable, accepted-put-fixed, live-if-stands, accepted-drop, accepted-pin, accepted-unpin, accepted-store, accepted-read, store-then-read, pinned-pages-stay}
 use Rattle.rules.proofs.promises.Releases.{accepted-release}
+use Rattle.rules.proofs.promises.Reports.{report-figures, report-lines, accepted-report, report-without-words}
 use Rattle.rules.proofs.promises.Taken.{accepted-grant, freed-room-is-used}
-use Rattle.rules.proofs.promises.Unchanged.{refusal-changes-nothing, text-is-boots, owners-stay}
+use Rattle.rules.proofs.promises.Unchanged.{refusal-changes-nothing, accepted-counts, bytes-beside, owners-stay}
 
 pub all-promises : AllPromises
 all-promises =
@@ -28,7 +29,8 @@ all-promises =
       refusal-zeros = refusal-has-zeros;
       boot-place = boot-answers-place;
       refusal = refusal-changes-nothing;
-      text = text-is-boots;
+      counts = accepted-counts;
+      bytes = bytes-beside;
       owners = owners-stay;
       put-movable = accepted-put-movable;
       put-fixed = accepted-put-fixed;
@@ -55,4 +57,8 @@ all-promises =
       shape-kept = declare-keeps-shape;
       boot-lengths = boot-looks-at-lengths;
       boot = accepted-boot;
+      figures = report-figures;
+      lines = report-lines;
+      report = accepted-report;
+      report-words = report-without-words;
     }

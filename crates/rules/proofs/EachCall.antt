@@ -18,6 +18,7 @@ use Rattle.rules.specs.DeviceCalls.{isCandidate, isGrantable, chosen, mo
 use Rattle.rules.specs.DeviceCalls as Device
 use Rattle.rules.specs.Declare.{isVacant, fitsAt, highestFit}
 use Rattle.rules.specs.Declare as Declare
+use Rattle.rules.specs.Report as Report
 use Rattle.rules.specs.Calls.{perform}
 use Rattle.rules.proofs.Checks.{numbered}
 
@@ -39,22 +40,23 @@ module _ (P : Call → Record → Tables → List ℕ → Outcome → Outcome �
     let c = Call.Boot base frames blockOrder in
     P c m t words (perform c text m t) (perform c text m (otherWords t words))) where
   pub each-twice :
-      (c : Call) (text : List ℕ) (m : Record) (t : Tables) (words : List ℕ) →
-      P c m t words (perform c text m t) (perform c text m (otherWords t words))
-  unfolding Page.putPage Page.dropPage Page.changeKind Page.storePage Page.readPage pageAt putAt freeOrdinary freeInArea Device.grant Device.release Device.deviceStore Device.deviceRead chosen isGrantable isCandidate movers targets laterFrames Declare.declare isVacant fitsAt highestFit
-  each-twice (Call.PutMovable name) text m t words = of-checks _ m t words _ _ _ refl refl
-  each-twice (Call.PutFixed name) text m t words = of-checks _ m t words _ _ _ refl refl
-  each-twice (Call.Drop name) text m t words = of-checks _ m t words _ _ _ refl refl
-  each-twice (Call.Pin name) text m t words = of-checks _ m t words _ _ _ refl refl
-  each-twice (Call.Unpin name) text m t words = of-checks _ m t words _ _ _ refl refl
-  each-twice (Call.Store name word) text m t words = of-checks _ m t words _ _ _ refl refl
-  each-twice (Call.Read name) text m t words = of-checks _ m t words _ _ _ refl refl
-  each-twice (Call.Grant area count alignOrder device) text m t words = of-checks _ m t words _ _ _ refl refl
-  each-twice (Call.Release area f count device) text m t words = of-checks _ m t words _ _ _ refl refl
-  each-twice (Call.DeviceStore f word device) text m t words = of-checks _ m t words _ _ _ refl refl
-  each-twice (Call.DeviceRead f device) text m t words = of-checks _ m t words _ _ _ refl refl
-  each-twice (Call.Declare request) text m t words = of-checks _ m t words _ _ _ refl refl
+      (c : Call) (bytes : List ℕ) (m : Record) (t : Tables) (words : List ℕ) →
+      P c m t words (perform c bytes m t) (perform c bytes m (otherWords t words))
+  unfolding Page.putPage Page.dropPage Page.changeKind Page.storePage Page.readPage pageAt putAt freeOrdinary freeInArea Device.grant Device.release Device.deviceStore Device.deviceRead chosen isGrantable isCandidate movers targets laterFrames Declare.declare isVacant fitsAt highestFit Report.report Report.reportOf Report.usedOf Report.maxChunk
+  each-twice (Call.PutMovable name) bytes m t words = of-checks _ m t words _ _ _ refl refl
+  each-twice (Call.PutFixed name) bytes m t words = of-checks _ m t words _ _ _ refl refl
+  each-twice (Call.Drop name) bytes m t words = of-checks _ m t words _ _ _ refl refl
+  each-twice (Call.Pin name) bytes m t words = of-checks _ m t words _ _ _ refl refl
+  each-twice (Call.Unpin name) bytes m t words = of-checks _ m t words _ _ _ refl refl
+  each-twice (Call.Store name word) bytes m t words = of-checks _ m t words _ _ _ refl refl
+  each-twice (Call.Read name) bytes m t words = of-checks _ m t words _ _ _ refl refl
+  each-twice (Call.Grant area count alignOrder device) bytes m t words = of-checks _ m t words _ _ _ refl refl
+  each-twice (Call.Release area f count device) bytes m t words = of-checks _ m t words _ _ _ refl refl
+  each-twice (Call.DeviceStore f word device) bytes m t words = of-checks _ m t words _ _ _ refl refl
+  each-twice (Call.DeviceRead f device) bytes m t words = of-checks _ m t words _ _ _ refl refl
+  each-twice (Call.Declare request) bytes m t words = of-checks _ m t words _ _ _ refl refl
   each-twice (Call.Boot base frames blockOrder) text m t words = of-boot base frames blockOrder text m t words
+  each-twice Call.Report bytes m t words = of-checks _ m t words _ _ _ refl refl
 
 -- and so, of one run alone
 module _ (P : Call → Record → Tables → Outcome → Type 0)
@@ -65,7 +67,7 @@ module _ (P : Call → Record → Tables → Outcome → Type 0)
     (base : Frame) (frames blockOrder : ℕ) (text : List ℕ) (m : Record) (t : Tables) →
     let c = Call.Boot base frames blockOrder in
     P c m t (perform c text m t)) where
-  pub each-call : (c : Call) (text : List ℕ) (m : Record) (t : Tables) → P c m t (perform c text m t)
-  each-call c text m t =
+  pub each-call : (c : Call) (bytes : List ℕ) (m : Record) (t : Tables) → P c m t (perform c bytes m t)
+  each-call c bytes m t =
       each-twice (λ c m t _ o _. P c m t o) (λ c m t _ rest o _ nums done. of-checks c m t (shapeWrong m t ⇒ 1 ∷ rest) o nums done)
-      (λ base frames blockOrder text m t _. of-boot base frames blockOrder text m t) c text m t (t .words)
+      (λ base frames blockOrder text m t _. of-boot base frames blockOrder text m t) c bytes m t (t .words)

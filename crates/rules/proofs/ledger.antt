@@ -3,6 +3,7 @@ pub mod BitsSound
 pub mod BootCall
 pub mod CallsAlike
 pub mod Conclusions
+pub mod Counting
 pub mod DeclareCall
 pub mod Demand3
 pub mod DeviceWords
@@ -25,5 +26,6 @@ pub mod PutCalls
 pub mod Release
 pub mod ReleaseBits
 pub mod ReleasedGrant
+pub mod ReportCall
 pub mod Tables
 pub mod TwoRuns

@@ -17,6 +17,7 @@ pub mod Pages
 pub mod PlaceTests
 pub mod Places
 pub mod Releases
+pub mod Reports
 pub mod Rounded
 pub mod Runs
 pub mod Shapes

@@ -1,5 +1,6 @@
 pub mod Boot
 pub mod Calls
+pub mod Counters
 pub mod Declare
 pub mod Does
 pub mod DeviceCalls
@@ -7,6 +8,7 @@ pub mod Limits
 pub mod Outcomes
 pub mod PageCalls
 pub mod Record
+pub mod Report
 pub mod Shape
 pub mod ledger
 pub mod promises

@@ -9,6 +9,7 @@ pub mod Moves
 pub mod Numbers
 pub mod Pages
 pub mod Releases
+pub mod Reports
 pub mod Rounded
 pub mod Shapes
 pub mod Unchanged

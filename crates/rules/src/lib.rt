@@ -1,7 +1,9 @@
 // The plain data of a machine, the rules of document 01 as definitions over it, and what is proved of them: the promises in plain quantifiers,
 // and the ledger of demand 3 over every list of calls. The contracts of the crates above cite these definitions.
 ghost use mathlib.Core.Path.{_≡_};
+ghost use Rattle.rules.specs.Counters.{noGrants, afterGrant, afterBoot, since};
 ghost use Rattle.rules.specs.Record.{freshRecord};
+use answer::refusal;
 use frames::Area;
 use frames::Frame;
 
@@ -17,8 +19,8 @@ pub struct Memory {
     pub declared: u64,
 }
 
-// The machine record, which each call takes and hands back: its memory by value, and the numbers of its areas lent, so that no call but a boot
-// copies them. They are one flat array: a slice of numbers is proved with no walk of the code, and a slice of structs is not.
+// The machine record, which each call takes and hands back, but for its counters: its memory by value, and the numbers of its areas lent, so that
+// no call but a boot copies them. They are one flat array: a slice of numbers is proved with no walk of the code, and a slice of structs is not.
 pub struct Record {
     pub memory: Memory,
     pub areas: [u64; Record::AREA_NUMBERS],
@@ -74,6 +76,61 @@ impl Record {
     }
 }
 
+// The record's counters since the last accepted boot: how many grants were accepted, and how many were refused with another number than that of
+// the wrong shape. They wrap on purpose after 4,294,967,295. No call but a grant and a boot changes them, and none looks at them.
+pub struct Counters {
+    pub granted: u32,
+    pub refused: u32,
+}
+
+impl Counters {
+    pub fn zero() -> Self
+        ensures { λ r. ⌜ r ≡ noGrants ⌝ }
+    {
+        Self {
+            granted: 0,
+            refused: 0,
+        }
+    }
+
+    // After a grant that was answered with this number, 0 among them.
+    pub fn after_grant(self, number: u64) -> Self
+        ensures { λ r. ⌜ r ≡ afterGrant number self ⌝ }
+    {
+        if number == refusal::NONE {
+            return Self {
+                granted: std::num::wrapping_add_u32(self.granted, 1),
+                refused: self.refused,
+            };
+        }
+        if number == refusal::WRONG_SHAPE {
+            return self;
+        }
+        Self {
+            granted: self.granted,
+            refused: std::num::wrapping_add_u32(self.refused, 1),
+        }
+    }
+
+    // After a boot that was answered with this number.
+    pub fn after_boot(self, number: u64) -> Self
+        ensures { λ r. ⌜ r ≡ afterBoot number self ⌝ }
+    {
+        if number == refusal::NONE {
+            return Counters::zero();
+        }
+        self
+    }
+}
+
+// How many calls were counted between an earlier reading of a counter and a later one, where they are fewer than 2^32 and no boot that was accepted
+// came between.
+pub fn since(later: u32, earlier: u32) -> u32
+    ensures { λ r. ⌜ r ≡ since later earlier ⌝ }
+{
+    std::num::wrapping_sub_u32(later, earlier)
+}
+
 // What a declaration asks for: amounts in bytes, the order of the pages per bit (document 01's k), and whether the base is where the area
 // must begin.
 pub struct Request {
@@ -85,7 +142,7 @@ pub struct Request {
     pub fixed: bool,
 }
 
-// A call with its numbers. A boot's text is lent beside it, since an enum holds no reference; no other call reads it.
+// A call with its numbers. A boot's text and a report's buffer are lent beside it, since an enum holds no reference.
 pub enum Call {
     PutMovable {
         name: u64,
@@ -138,4 +195,5 @@ pub enum Call {
         frames: u64,
         block_order: u64,
     },
+    Report,
 }

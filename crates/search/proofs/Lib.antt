@@ -1,5 +1,6 @@
 pub mod Bools
 pub mod Counts
 pub mod Highest
+pub mod Longest
 pub mod Lowest
 pub mod Ranges

@@ -10,6 +10,7 @@ use Rattle.frames.specs.Tables.{Tables, tables, markAt}
 use Rattle.rules.specs.declared.Call.{Call}
 use Rattle.rules.specs.declared.Record.{Record}
 use Rattle.rules.specs.Record.{freshRecord, placeOf}
+use Rattle.rules.specs.Report.{reportOf}
 use Rattle.rules.specs.Calls.{perform}
 
 -- a call and its answer
@@ -49,8 +50,19 @@ stepsRight (s ∷ ss) marks m t =
     sameAnswer (o .answer) (s .answer) && stepsRight ss marks (o .machine) (o .left)
 
 -- an example starts with a fresh record, 32 frames and as many bitmap words as a replay lends, 96
+abbrev startTables : Tables
+startTables = tables (replicate 32 0) (replicate 32 0) (replicate 96 0) (replicate 32 0)
+
 unfoldable pub isRight : Example → Bool
-isRight e = stepsRight (e .steps) (e .marks) freshRecord (tables (replicate 32 0) (replicate 32 0) (replicate 96 0) (replicate 32 0))
+isRight e = stepsRight (e .steps) (e .marks) freshRecord startTables
+
+-- the report after some calls
+abbrev reportOn : List Step → Record → Tables → List ℕ
+reportOn [] m t = reportOf m t
+reportOn (s ∷ ss) m t = let o = perform (s .call) [] m t in reportOn ss (o .machine) (o .left)
+
+unfoldable pub reportAfter : List Step → List ℕ
+reportAfter steps = reportOn steps freshRecord startTables
 
 unfoldable pub allRight : List Example → Bool
 allRight [] = true

@@ -1,5 +1,6 @@
--- After a call the numbers hold the record that it returned: no call changes how many numbers the areas have. Assumes nothing.
-use Prim.Native.Nat.{ℕ, suc}
+-- After a call the numbers hold the record and the counters that it returned: no call changes how many numbers the areas have. Assumes nothing.
+use Prim.Native.Nat.{ℕ, suc, _<_}
+use native.Mathlib.Omega.{arith}
 use mathlib.Core.Path.{_≡_, refl, _∙_}
 use mathlib.Core.Bool.{true, not, _&&_}
 use mathlib.Core.List.{List, [], _∷_}
@@ -14,6 +15,7 @@ use Rattle.text.specs.Reading.{Read, gives, refuses, _then_}
 use Rattle.regions.specs.Text.{regions}
 use Rattle.rules.specs.declared.Call.{Call}
 use Rattle.rules.specs.declared.Call.the-variants as Call
+use Rattle.rules.specs.declared.Counters.{Counters}
 use Rattle.rules.specs.declared.Record.{Record}
 use Rattle.rules.specs.declared.Request.{Request}
 use Rattle.rules.specs.Record.{bareRecord}
@@ -24,9 +26,12 @@ use Rattle.rules.specs.PageCalls as Page
 use Rattle.rules.specs.DeviceCalls as Device
 use Rattle.rules.specs.Declare as Declare
 use Rattle.rules.specs.Boot as Boot
+use Rattle.rules.specs.Report as Report
+use Rattle.rules.specs.Counters.{afterGrant, counted}
 use Rattle.rules.specs.Calls.{perform}
+use Rattle.rules.specs.ledger.Roles.{roleOf}
 use Rattle.rules.proofs.Checks.{numbered, checked-cases}
-use Rattle.szk.specs.Layout.{recordLength, answerLength, recordFrom, numbersOf, over}
+use Rattle.szk.specs.Layout.{recordLength, answerLength, recordFrom, countersFrom, numbersOf, over}
 use Rattle.szk.specs.Exported.{exported}
 use Rattle.szk.specs.Statement.{NextRecord}
 use Rattle.szk.proofs.LayoutFacts.{length-areas}
@@ -76,27 +81,42 @@ booted-whole m t (refuses number at) e g = e
 
 -- ---- every call
 
-perform-whole : (m : Record) (t : Tables) (call : Call) (text : List ℕ) → Whole m → Whole (perform call text m t .machine)
-unfolding Page.putPage Page.dropPage Page.changeKind Page.storePage Page.readPage Device.grant Device.release Device.deviceStore Device.deviceRead Boot.boot
-perform-whole m t (Call.PutMovable name) text e = checked-whole m t _ _ refl e e
-perform-whole m t (Call.PutFixed name) text e = checked-whole m t _ _ refl e e
-perform-whole m t (Call.Drop name) text e = checked-whole m t _ _ refl e e
-perform-whole m t (Call.Pin name) text e = checked-whole m t _ _ refl e e
-perform-whole m t (Call.Unpin name) text e = checked-whole m t _ _ refl e e
-perform-whole m t (Call.Store name word) text e = checked-whole m t _ _ refl e e
-perform-whole m t (Call.Read name) text e = checked-whole m t _ _ refl e e
-perform-whole m t (Call.Grant area count align device) text e = checked-whole m t _ _ refl e e
-perform-whole m t (Call.Release area frame count device) text e = checked-whole m t _ _ refl e e
-perform-whole m t (Call.DeviceStore frame word device) text e = checked-whole m t _ _ refl e e
-perform-whole m t (Call.DeviceRead frame device) text e = checked-whole m t _ _ refl e e
-perform-whole m t (Call.Declare request) text e = declare-whole m request t e
-perform-whole m t (Call.Boot base frames order) text e =
-    booted-whole m t (Boot.bootRecord (base .0) frames order text t) e (boot-record-whole (base .0) frames order text t)
+perform-whole : (m : Record) (t : Tables) (call : Call) (bytes : List ℕ) → Whole m → Whole (perform call bytes m t .machine)
+unfolding Page.putPage Page.dropPage Page.changeKind Page.storePage Page.readPage Device.grant Device.release Device.deviceStore Device.deviceRead Boot.boot Report.report
+perform-whole m t (Call.PutMovable name) bytes e = checked-whole m t _ _ refl e e
+perform-whole m t (Call.PutFixed name) bytes e = checked-whole m t _ _ refl e e
+perform-whole m t (Call.Drop name) bytes e = checked-whole m t _ _ refl e e
+perform-whole m t (Call.Pin name) bytes e = checked-whole m t _ _ refl e e
+perform-whole m t (Call.Unpin name) bytes e = checked-whole m t _ _ refl e e
+perform-whole m t (Call.Store name word) bytes e = checked-whole m t _ _ refl e e
+perform-whole m t (Call.Read name) bytes e = checked-whole m t _ _ refl e e
+perform-whole m t (Call.Grant area count align device) bytes e = checked-whole m t _ _ refl e e
+perform-whole m t (Call.Release area frame count device) bytes e = checked-whole m t _ _ refl e e
+perform-whole m t (Call.DeviceStore frame word device) bytes e = checked-whole m t _ _ refl e e
+perform-whole m t (Call.DeviceRead frame device) bytes e = checked-whole m t _ _ refl e e
+perform-whole m t (Call.Declare request) bytes e = declare-whole m request t e
+perform-whole m t (Call.Boot base frames order) bytes e =
+    booted-whole m t (Boot.bootRecord (base .0) frames order bytes t) e (boot-record-whole (base .0) frames order bytes t)
+perform-whole m t Call.Report bytes e = checked-whole m t _ _ refl e e
+
+-- the granted stay a number of 32 bits
+granted-small : (call : Call) (number : ℕ) (c : Counters) → c .granted < 4294967296 → counted call number c .granted < 4294967296
+unfolding afterGrant
+granted-small call number c h =
+    by-cases (roleOf call .isGrant)
+    (λ g.
+    rw g
+    (by-cases (eqb number 0) (λ y. rw y (omega arith)) (λ n. rw n (by-cases (eqb number 1) (λ y. rw y h) (λ k. rw k h)))))
+    (λ g.
+    rw g (by-cases (roleOf call .isBoot) (λ b. rw b (by-cases (eqb number 0) (λ y. rw y (omega arith)) (λ n. rw n h))) (λ b. rw b h)))
 
 pub next-record : NextRecord
 unfolding exported over
-next-record call text l room long =
+next-record call bytes l room long =
     let m = recordFrom (l .numbers) in
-    let next = perform call text m (l .tables) .machine in
+    let o = perform call bytes m (l .tables) in
+    let c = counted call (o .answer .refusal) (countersFrom (l .numbers)) in
     rw (le-ltb (length (l .answer)) answerLength room, le-ltb (length (l .numbers)) recordLength long)
-    (read-back next (drop (length (numbersOf next)) (l .numbers)) (perform-whole m (l .tables) call text (length-areas (l .numbers) long)))
+    (read-back (o .machine) c (drop (length (numbersOf (o .machine) c)) (l .numbers))
+    (perform-whole m (l .tables) call bytes (length-areas (l .numbers) long))
+    (granted-small call (o .answer .refusal) (countersFrom (l .numbers)) (omega arith)))

@@ -1,17 +1,19 @@
--- The machine record as a caller in C holds it: its first frame, its frames, its block order and how many areas are declared; then the
--- areas' numbers, as the record has them. An answer is three numbers.
-use Prim.Native.Nat.{ℕ, _+_}
+-- The machine record as a caller in C holds it: its first frame, its frames, its block order, how many areas are declared, and both counters in one
+-- number; then the areas' numbers, as the record has them. An answer is three numbers.
+use Prim.Native.Nat.{ℕ, _+_, _*_, _/_, _%_, _^_}
 use mathlib.Core.List.{List, [], _∷_, _++_}
 use lib.ListN.{length, getD, take, drop}
 use Rattle.answer.specs.declared.Answer.{Answer}
 use Rattle.frames.specs.Units.{frame}
+use Rattle.rules.specs.declared.Counters.{Counters}
 use Rattle.rules.specs.declared.Memory.{Memory}
 use Rattle.rules.specs.declared.Record.{Record}
+use Rattle.rules.specs.Counters.{counters}
 use Rattle.rules.specs.Limits.{mostAreaNumbers}
 
 -- the numbers before the areas, of a record and of an answer
 abbrev pub areasStart : ℕ
-areasStart = 4
+areasStart = 5
 
 abbrev pub recordLength : ℕ
 recordLength = areasStart + mostAreaNumbers
@@ -32,12 +34,22 @@ recordFrom numbers =
       areas = take mostAreaNumbers (drop areasStart numbers);
     }
 
--- from a record to its numbers: those of its memory, and then its areas'
-abbrev pub memoryNumbers : Memory → List ℕ
-memoryNumbers m = m .base .0 ∷ m .frames ∷ m .«block_order» ∷ m .declared ∷ []
+-- the counters: the granted in the low 32 bits of their number, the refused above them, so that every number of 64 bits is two counters
+abbrev pub countersIn : ℕ → Counters
+countersIn both = counters (both % 2 ^ 32) (both / 2 ^ 32)
 
-abbrev pub numbersOf : Record → List ℕ
-numbersOf m = memoryNumbers (m .memory) ++ m .areas
+abbrev pub countersFrom : List ℕ → Counters
+countersFrom numbers = countersIn (getD numbers 4 0)
+
+abbrev pub countersNumber : Counters → ℕ
+countersNumber c = c .granted + 2 ^ 32 * c .refused
+
+-- from a record to its numbers: those of its memory, its counters', and then its areas'
+abbrev pub ownNumbers : Memory → Counters → List ℕ
+ownNumbers m c = m .base .0 ∷ m .frames ∷ m .«block_order» ∷ m .declared ∷ countersNumber c ∷ []
+
+abbrev pub numbersOf : Record → Counters → List ℕ
+numbersOf m c = ownNumbers (m .memory) c ++ m .areas
 
 abbrev pub answerNumbers : Answer → List ℕ
 answerNumbers a = a .refusal ∷ a .first ∷ a .second ∷ []

@@ -1,11 +1,14 @@
 // The exported functions, one for each call: each makes its call of its numbers and hands it to `exchange::call`. Frames are physical frame
-// numbers.
+// numbers. `szk_since` is no call: it is lent nothing.
 ghost use mathlib.Core.Bool.{not};
+ghost use mathlib.Core.Path.{_≡_};
 ghost use mathlib.Core.List.{[]};
 ghost use lib.Dec.{eqb};
 ghost use Rattle.frames.specs.Units.{frame as frameOf};
 ghost use Rattle.rules.specs.declared.Call.the-variants as Call;
-ghost use Rattle.szk.specs.Exported.{Exports};
+ghost use Rattle.frames.specs.Lent.{entering};
+ghost use Rattle.rules.specs.Counters.{since};
+ghost use Rattle.szk.specs.Exported.{handed, Exports, bufferLeft};
 use crate::exchange;
 use frames::Frame;
 use rules::Call;
@@ -25,7 +28,17 @@ pub extern "C" fn szk_put_movable(
     ensures { λ _. ⌜ Exports (Call.PutMovable name) [] numbers marks words bitmap owners answer ⌝ }
 {
     let call = Call::PutMovable { name };
-    exchange::call(numbers, marks, words, bitmap, owners, answer, call, b"");
+    exchange::call(
+        numbers,
+        marks,
+        words,
+        bitmap,
+        owners,
+        answer,
+        call,
+        b"",
+        &mut [],
+    );
 }
 
 // A fixed page is put, which no area takes.
@@ -42,7 +55,17 @@ pub extern "C" fn szk_put_fixed(
     ensures { λ _. ⌜ Exports (Call.PutFixed name) [] numbers marks words bitmap owners answer ⌝ }
 {
     let call = Call::PutFixed { name };
-    exchange::call(numbers, marks, words, bitmap, owners, answer, call, b"");
+    exchange::call(
+        numbers,
+        marks,
+        words,
+        bitmap,
+        owners,
+        answer,
+        call,
+        b"",
+        &mut [],
+    );
 }
 
 // A page is gone from its frame, unless it is pinned.
@@ -59,7 +82,17 @@ pub extern "C" fn szk_drop(
     ensures { λ _. ⌜ Exports (Call.Drop name) [] numbers marks words bitmap owners answer ⌝ }
 {
     let call = Call::Drop { name };
-    exchange::call(numbers, marks, words, bitmap, owners, answer, call, b"");
+    exchange::call(
+        numbers,
+        marks,
+        words,
+        bitmap,
+        owners,
+        answer,
+        call,
+        b"",
+        &mut [],
+    );
 }
 
 // A movable page is pinned.
@@ -76,7 +109,17 @@ pub extern "C" fn szk_pin(
     ensures { λ _. ⌜ Exports (Call.Pin name) [] numbers marks words bitmap owners answer ⌝ }
 {
     let call = Call::Pin { name };
-    exchange::call(numbers, marks, words, bitmap, owners, answer, call, b"");
+    exchange::call(
+        numbers,
+        marks,
+        words,
+        bitmap,
+        owners,
+        answer,
+        call,
+        b"",
+        &mut [],
+    );
 }
 
 // A pinned page is movable again.
@@ -93,7 +136,17 @@ pub extern "C" fn szk_unpin(
     ensures { λ _. ⌜ Exports (Call.Unpin name) [] numbers marks words bitmap owners answer ⌝ }
 {
     let call = Call::Unpin { name };
-    exchange::call(numbers, marks, words, bitmap, owners, answer, call, b"");
+    exchange::call(
+        numbers,
+        marks,
+        words,
+        bitmap,
+        owners,
+        answer,
+        call,
+        b"",
+        &mut [],
+    );
 }
 
 // The word becomes the page's, unless it is pinned.
@@ -111,7 +164,17 @@ pub extern "C" fn szk_store(
     ensures { λ _. ⌜ Exports (Call.Store name word) [] numbers marks words bitmap owners answer ⌝ }
 {
     let call = Call::Store { name, word };
-    exchange::call(numbers, marks, words, bitmap, owners, answer, call, b"");
+    exchange::call(
+        numbers,
+        marks,
+        words,
+        bitmap,
+        owners,
+        answer,
+        call,
+        b"",
+        &mut [],
+    );
 }
 
 // Answers the page's frame and its word.
@@ -128,7 +191,17 @@ pub extern "C" fn szk_read(
     ensures { λ _. ⌜ Exports (Call.Read name) [] numbers marks words bitmap owners answer ⌝ }
 {
     let call = Call::Read { name };
-    exchange::call(numbers, marks, words, bitmap, owners, answer, call, b"");
+    exchange::call(
+        numbers,
+        marks,
+        words,
+        bitmap,
+        owners,
+        answer,
+        call,
+        b"",
+        &mut [],
+    );
 }
 
 // A run of frames of an area is granted to a device. Answers its first frame, and how many pages moved out of it.
@@ -153,7 +226,17 @@ pub extern "C" fn szk_grant(
         align,
         device,
     };
-    exchange::call(numbers, marks, words, bitmap, owners, answer, call, b"");
+    exchange::call(
+        numbers,
+        marks,
+        words,
+        bitmap,
+        owners,
+        answer,
+        call,
+        b"",
+        &mut [],
+    );
 }
 
 // A grant ends, by its owner, and its frames are free.
@@ -179,7 +262,17 @@ pub extern "C" fn szk_release(
         count,
         device,
     };
-    exchange::call(numbers, marks, words, bitmap, owners, answer, call, b"");
+    exchange::call(
+        numbers,
+        marks,
+        words,
+        bitmap,
+        owners,
+        answer,
+        call,
+        b"",
+        &mut [],
+    );
 }
 
 // A device stores a word in a frame that it owns.
@@ -203,7 +296,17 @@ pub extern "C" fn szk_device_store(
         word,
         device,
     };
-    exchange::call(numbers, marks, words, bitmap, owners, answer, call, b"");
+    exchange::call(
+        numbers,
+        marks,
+        words,
+        bitmap,
+        owners,
+        answer,
+        call,
+        b"",
+        &mut [],
+    );
 }
 
 // A device reads a frame that it owns. Answers its word.
@@ -222,7 +325,17 @@ pub extern "C" fn szk_device_read(
 {
     let frame = Frame(frame);
     let call = Call::DeviceRead { frame, device };
-    exchange::call(numbers, marks, words, bitmap, owners, answer, call, b"");
+    exchange::call(
+        numbers,
+        marks,
+        words,
+        bitmap,
+        owners,
+        answer,
+        call,
+        b"",
+        &mut [],
+    );
 }
 
 // An area is declared, by amounts in bytes. A `fixed` of 0 is no, any other number is yes. Answers its first frame and its count.
@@ -252,7 +365,17 @@ pub extern "C" fn szk_declare(
         fixed: fixed != 0,
     };
     let call = Call::Declare { request };
-    exchange::call(numbers, marks, words, bitmap, owners, answer, call, b"");
+    exchange::call(
+        numbers,
+        marks,
+        words,
+        bitmap,
+        owners,
+        answer,
+        call,
+        b"",
+        &mut [],
+    );
 }
 
 // A machine starts, with the areas of a regions text. The record lent is ignored, but for its length.
@@ -277,5 +400,51 @@ pub extern "C" fn szk_boot(
         frames,
         block_order,
     };
-    exchange::call(numbers, marks, words, bitmap, owners, answer, call, text);
+    exchange::call(
+        numbers,
+        marks,
+        words,
+        bitmap,
+        owners,
+        answer,
+        call,
+        text,
+        &mut [],
+    );
+}
+
+// The lines of the memory report, at the front of a buffer. Answers their length.
+#[no_mangle]
+pub extern "C" fn szk_report(
+    numbers: &mut [u64],
+    marks: &mut [u32],
+    words: &mut [u64],
+    bitmap: &mut [u64],
+    owners: &mut [u32],
+    answer: &mut [u64],
+    buffer: &mut [u8],
+)
+    ensures { λ _. ⌜ Exports Call.Report (now (buffer .entry)) numbers marks words bitmap owners answer ⌝ }
+    ensures { λ _. ⌜ now (buffer .exit) ≡ bufferLeft Call.Report (now (buffer .entry)) (handed (now (numbers .entry)) (entering marks words bitmap owners) (now (answer .entry))) ⌝ }
+{
+    exchange::call(
+        numbers,
+        marks,
+        words,
+        bitmap,
+        owners,
+        answer,
+        Call::Report,
+        b"",
+        buffer,
+    );
+}
+
+// How many calls were counted between an earlier reading of a counter and a later one, where they are fewer than 2^32 and no boot that was accepted
+// came between.
+#[no_mangle]
+pub extern "C" fn szk_since(later: u32, earlier: u32) -> u32
+    ensures { λ r. ⌜ r ≡ since later earlier ⌝ }
+{
+    rules::since(later, earlier)
 }

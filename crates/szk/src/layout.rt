@@ -1,11 +1,12 @@
-// The machine record and the answer as the numbers that a caller lends: the record's own four are read from there and written back, and those of
-// its areas stay where they are.
+// The machine record and the answer as the numbers that a caller lends: the record's own five are read from there and written back, and those of
+// its areas stay where they are. Both counters are one number, the granted in its low 32 bits: so every number there is two counters.
 ghost use mathlib.Core.Path.{_≡_};
 ghost use Prim.Native.Nat.{_≤_};
 ghost use lib.ListN.{length, set};
-ghost use Rattle.szk.specs.Layout.{recordLength, answerLength, recordFrom, memoryNumbers, answerNumbers, over};
+ghost use Rattle.szk.specs.Layout.{recordLength, answerLength, recordFrom, countersIn, countersFrom, ownNumbers, answerNumbers, over};
 use answer::Answer;
 use frames::Frame;
+use rules::Counters;
 use rules::Memory;
 use rules::Record;
 
@@ -15,8 +16,11 @@ pub const RECORD: usize = AREAS_START + Record::AREA_NUMBERS;
 // How many numbers an answer takes.
 pub const ANSWER: usize = 3;
 
-// Where the areas' numbers begin, after the record's own four.
-pub const AREAS_START: usize = 4;
+// Where the areas' numbers begin, after the record's own five.
+pub const AREAS_START: usize = 5;
+
+// One refused grant, in the counters' number.
+const ONE_REFUSED: u64 = 4294967296;
 
 // The memory of the record that the numbers hold.
 pub fn load(numbers: &[u64]) -> Memory
@@ -31,15 +35,34 @@ pub fn load(numbers: &[u64]) -> Memory
     }
 }
 
-// A memory is written over the first numbers.
-pub fn store(numbers: &mut [u64], memory: Memory)
+// The two counters that a number holds.
+fn counters_in(both: u64) -> Counters
+    ensures { λ r. ⌜ r ≡ countersIn both ⌝ }
+{
+    Counters {
+        granted: (both % ONE_REFUSED) as u32,
+        refused: (both / ONE_REFUSED) as u32,
+    }
+}
+
+// The counters of the record.
+pub fn load_counters(numbers: &[u64]) -> Counters
     requires { ⌜ recordLength ≤ length (now numbers) ⌝ }
-    ensures { λ _. ⌜ now (numbers .exit) ≡ over (memoryNumbers memory) (now (numbers .entry)) ⌝ }
+    ensures { λ r. ⌜ r ≡ countersFrom (now (numbers .entry)) ⌝ }
+{
+    counters_in(numbers[4])
+}
+
+// A memory and counters are written over the first numbers.
+pub fn store(numbers: &mut [u64], memory: Memory, counters: Counters)
+    requires { ⌜ recordLength ≤ length (now numbers) ⌝ }
+    ensures { λ _. ⌜ now (numbers .exit) ≡ over (ownNumbers memory counters) (now (numbers .entry)) ⌝ }
 {
     numbers[0] = memory.base.0;
     numbers[1] = memory.frames;
     numbers[2] = memory.block_order;
     numbers[3] = memory.declared;
+    numbers[4] = counters.granted as u64 + ONE_REFUSED * counters.refused as u64;
 }
 
 // An answer is written over the first numbers.

@@ -34,6 +34,10 @@ lastDigits (suc k) n = lastDigits k (n / 10) ++ ((48 + n % 10) ∷ [])
 abbrev pub ended : ℕ → ℕ → List ℕ
 ended value end = decimal value ++ (end ∷ [])
 
+-- four numbers with a space between them, and the line's end
+unfoldable pub fourNumbers : ℕ → ℕ → ℕ → ℕ → List ℕ
+fourNumbers a b c d = ended a 32 ++ ended b 32 ++ ended c 32 ++ ended d 10
+
 -- a label, a number and the line's end
 unfoldable pub labelled : List ℕ → ℕ → List ℕ
 labelled label value = label ++ ended value 10

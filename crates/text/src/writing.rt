@@ -5,7 +5,7 @@ ghost use Prim.Native.Nat.{_+_, _≤_};
 ghost use lib.ListN.{length};
 ghost use lib.Seq.{sets};
 ghost use lib.Dec.{leb};
-ghost use Rattle.text.specs.Writing.{decimal, lastDigits, labelled, DigitsCounted, Appended};
+ghost use Rattle.text.specs.Writing.{decimal, lastDigits, fourNumbers, labelled, DigitsCounted, Appended};
 
 // How many digits a number has, four of them at a time.
 pub fn digit_count(value: u64) -> usize
@@ -101,6 +101,23 @@ pub fn put_number(out: &mut [u8], at: usize, value: u64) -> usize
     }
     fill(out, at, value, count);
     at + count
+}
+
+// Four numbers with a space between them, and the line's end. The room of the whole line is tested before anything is written.
+pub fn put_four(out: &mut [u8], at: usize, a: u64, b: u64, c: u64, d: u64) -> usize
+    ensures { λ r. ⌜ Appended (now (out .entry)) at (fourNumbers a b c d) (now (out .exit)) r ⌝ }
+{
+    let digits_a = digit_count(a);
+    let digits_b = digit_count(b);
+    let digits_c = digit_count(c);
+    let digits_d = digit_count(d);
+    if !has_room(out.len(), at, digits_a + digits_b + digits_c + digits_d + 4) {
+        return at;
+    }
+    let after_a = put_digits(out, at, a, digits_a, b' ');
+    let after_b = put_digits(out, after_a, b, digits_b, b' ');
+    let after_c = put_digits(out, after_b, c, digits_c, b' ');
+    put_digits(out, after_c, d, digits_d, b'\n')
 }
 
 // A label, a number and the line's end.

@@ -1,5 +1,6 @@
-//! The library's machine with tables of its own, held against the reference's state.
+//! The library's machine with tables and a buffer of its own, held against the reference's state.
 
+use reference::calls::front;
 use reference::{Call, State};
 use szk::{Answer, Machine, Request, Tables};
 
@@ -9,13 +10,15 @@ pub struct Held {
     pub words: Vec<u64>,
     pub bitmap: Vec<u64>,
     pub owners: Vec<u32>,
+    pub buffer: Vec<u8>,
 }
 
 /// The numbers of a record, in the order of szk.h.
 pub fn numbers(machine: &reference::Machine) -> [u64; Machine::NUMBERS] {
     let mut numbers = [0; Machine::NUMBERS];
-    numbers[..4].copy_from_slice(&[machine.base, machine.frames, machine.order, machine.declared]);
-    for (area, place) in machine.areas.iter().zip(numbers[4..].chunks_mut(3)) {
+    let counters = u64::from(machine.refused) << 32 | u64::from(machine.granted);
+    numbers[..5].copy_from_slice(&[machine.base, machine.frames, machine.order, machine.declared, counters]);
+    for (area, place) in machine.areas.iter().zip(numbers[5..].chunks_mut(3)) {
         place.copy_from_slice(&[area.base, area.count, area.order]);
     }
     numbers
@@ -29,6 +32,7 @@ impl Held {
             words: state.words.clone(),
             bitmap: state.bitmap.clone(),
             owners: state.owners.clone(),
+            buffer: state.buffer.clone(),
         }
     }
 
@@ -49,10 +53,11 @@ impl Held {
             Call::DeviceStore { frame, word, device } => m.device_store(t, *frame, *word, *device),
             Call::DeviceRead { frame, device } => m.device_read(t, *frame, *device),
             Call::Declare(r) => m.declare(t, &request(r)),
+            Call::Report { length } => m.report(t, front(&mut self.buffer, *length)).answer,
         }
     }
 
-    /// The answer, the record and all four tables are the reference's.
+    /// The answer, the record, all four tables and the buffer are the reference's.
     pub fn agrees(&self, answer: Answer, state: &State, expected: reference::Answer) -> bool {
         (answer.refusal, answer.first, answer.second) == (expected.refusal, expected.first, expected.second)
             && self.machine.numbers == numbers(&state.machine)
@@ -60,6 +65,7 @@ impl Held {
             && self.words == state.words
             && self.bitmap == state.bitmap
             && self.owners == state.owners
+            && self.buffer == state.buffer
     }
 }
 

@@ -17,9 +17,9 @@ answer-records-requires c κs = search needs
 
 put-last-requires : tie.Need-put-last-requires
 put-last-requires c κs =
-    let given = c .before .before .before .before .before .before .before .before .before .before .before .before .before .before .before .before .before .before .before .before .before .before .before .before .before .before .before .before .before .pre in
-    let headed = appended-within (c .before .before .before .before .before .before .before .before .before .before .before .before .before .before .before .before .before .before .before .before .before .put-heading .ensures) (omega arith) in
-    let one = c .before .before .before .before .before .before .before .before .before .before .before .before .before .before .before .before .before .before .before .before .before .put-heading .kept in
+    let given = c .before .before .before .before .before .before .before .before .before .before .before .before .before .before .before .before .before .before .before .before .before .before .before .before .before .before .before .before .before .before .pre in
+    let headed = appended-within (c .before .before .before .before .before .before .before .before .before .before .before .before .before .before .before .before .before .before .before .before .before .before .put-heading .ensures) (omega arith) in
+    let one = c .before .before .before .before .before .before .before .before .before .before .before .before .before .before .before .before .before .before .before .before .before .before .put-heading .kept in
     let went = ran _ _ (c .before .before .before .before .before .before .before .before .before .before .before .before .answer-records .ensures) (omega arith) (omega arith) in
     let two = c .before .before .before .before .before .before .before .before .before .before .before .before .answer-records .kept in
     omega arith
@@ -48,6 +48,7 @@ play-spec =
     (tie.spec
     put-heading-requires
     fresh-requires
+    (λ c κs. search needs)
     answer-records-requires
     put-last-requires
     same-length

@@ -16,8 +16,8 @@ lent-by c = tables (now (c .args .marks)) (now (c .args .words)) (now (c .args .
 answer-requires : tie.Need-answer-requires
 answer-requires c κs = search needs
 
-put-line-requires : tie.Need-put-line-requires
-put-line-requires c κs = search needs
+put-four-requires : tie.Need-put-four-requires
+put-four-requires c κs = search needs
 
 add-t27 : tie.Need-add-t27
 add-t27 c = let given = c .before .before .before .before .before .before .before .before .before .before .before .before .before .before .before .before .before .before .before .before .before .before .before .before .before .before .before .before .before .before in omega (arith, given .pre .1)
@@ -49,18 +49,18 @@ returns : tie.Need-returns
 returns c =
     let given = c .before .before .before .before .before .before .before .before .before .before .before .before .before .before .before .before .before .before .before .before .before .before .before .before .before .before .before .before .before .before .before in
     let made = c .before .before .before .before .before .before .before .before .before .before .before .before .before .before .before .before .before .before .answer in
-    let line = c .before .before .before .before .put-line in
+    let line = c .before .before .before .before .put-four in
     one-answered (progressWith (given .args .p) (now (given .args .areas))) (now (given .args .out)) (lent-by given) (given .args .call) (given .args .size)
     (made .result) (made .last .0) (made .last .1 .0) (made .last .1 .1 .0) (made .last .1 .1 .1 .0) (made .last .1 .1 .1 .1 .0)
     (line .last .0) (line .result)
-    (given .pre .0) (made .ensures) (line .ensures)
+    (given .pre .0) (made .ensures .0) (made .ensures .1) (line .ensures)
 
 pub answer-one-spec : {M : Type 1} → statement M
 answer-one-spec =
     tie.close
     (tie.spec
     answer-requires
-    put-line-requires
+    put-four-requires
     add-t27
     add-t28
     same-length

@@ -37,16 +37,16 @@ start-at c = playing (c .args .start) (now (c .args .out)) (tables (now (c .args
 
 -- at the loop's test: the bytes, what was given, and what there is now
 abbrev bytes-of : tie.At-loop Inv-loop μ-loop → List ℕ
-bytes-of c = now (c .before .before .before .before .before .before .before .before .before .args .bytes)
+bytes-of c = now (c .before .before .before .before .before .before .before .before .before .before .args .bytes)
 
 abbrev start-of : tie.At-loop Inv-loop μ-loop → Playing
-start-of c = start-at (c .before .before .before .before .before .before .before .before .before)
+start-of c = start-at (c .before .before .before .before .before .before .before .before .before .before)
 
 abbrev state-of : tie.At-loop Inv-loop μ-loop → Playing
 state-of c = playing (progressWith (c .loop .p) (c .loop .areas)) (c .loop .out) (tables (c .loop .marks) (c .loop .words) (c .loop .bitmap) (c .loop .owners))
 
 loop-holds : tie.Need-loop-holds Inv-loop μ-loop
-loop-holds c = (begins (now (c .before .before .before .before .before .before .before .before .args .bytes)) (start-at (c .before .before .before .before .before .before .before .before)), refl, refl, refl, refl, refl, search needs)
+loop-holds c = (begins (now (c .before .before .before .before .before .before .before .before .before .args .bytes)) (start-at (c .before .before .before .before .before .before .before .before .before)), refl, refl, refl, refl, refl, search needs)
 
 has-room-requires : tie.Need-has-room-requires Inv-loop μ-loop
 has-room-requires c κs = search needs
@@ -96,7 +96,7 @@ inside c = whole-within (bytes-of (c .before .before .before .before .before .be
 answer-one-requires : tie.Need-answer-one-requires Inv-loop μ-loop
 answer-one-requires c κs =
     let w = inside (c .before .before .before .before .before .before .before) in
-    let g = c .before .before .before .before .before .before .before .before .before .before .before .before .before .before .before .before .before .before .before .before .before .before .before .good in
+    let g = c .before .before .before .before .before .before .before .before .before .before .before .before .before .before .before .before .before .before .before .before .before .before .before .before .good in
     (room-there (c .before .before .before .before .before .before .before .before .before .before), omega arith, c .before .before .before .before .before .before .before .before .before .before .before .before .before .before .loop .inv .6)
 
 -- and the next place is after it

@@ -7,4 +7,4 @@ use Rattle.playback.specs.declared.Progress.{Progress}
 
 -- with the areas' numbers it is how far the records are answered
 abbrev pub progressWith : Going → List ℕ → Progress
-progressWith p areas = record { «record» = recordWith (p .machine .memory) areas; at = p .at; text = p .text; step = p .step }
+progressWith p areas = record { «record» = recordWith (p .machine .memory) areas; counters = p .machine .counters; at = p .at; text = p .text; step = p .step }

@@ -6,64 +6,37 @@ use Rattle.playback.proofs.Ran.{ran}
 use Rattle.replay.proofs.turn.Statement.{statement}
 use Rattle.replay.proofs.turn.Tie as tie
 
-sub-answer-records : tie.Need-sub-answer-records
-sub-answer-records c = search needs
-
-part-answer-records-start : tie.Need-part-answer-records-start
-part-answer-records-start c = search needs
-
-part-answer-records-end : tie.Need-part-answer-records-end
-part-answer-records-end c = search needs
-
-answer-records-requires : tie.Need-answer-records-requires
-answer-records-requires c κs = search needs
-
-sub-t30 : tie.Need-sub-t30
-sub-t30 c = omega (arith, c .before .before .before .before .before .before .before .before .before .before .before .before .before .before .before .before .before .before .before .before .before .before .before .before .before .before .before .before .pre)
+sub-t32 : tie.Need-sub-t32
+sub-t32 c = omega (arith, c .before .before .before .before .before .before .before .before .before .before .before .before .before .before .before .before .before .before .before .before .before .before .before .before .before .before .before .before .before .before .pre)
 
 after-requires : tie.Need-after-requires
 after-requires c κs =
-    let given = c .before .before .before .before .before .before .before .before .before .before .before .before .before .before .before .before .before .before .before .before .before .before .before .before .before .before .before .before .before .before .pre in
-    let went = ran _ _ (c .before .before .before .before .before .before .before .before .before .before .before .before .before .before .before .answer-records .ensures) (search needs) (omega arith) in
-    let kept = c .before .before .before .before .before .before .before .before .before .before .before .before .before .before .before .answer-records .kept in
+    let given = c .before .before .before .before .before .before .before .before .before .before .before .before .before .before .before .before .before .before .before .before .before .before .before .before .before .before .before .before .before .before .before .before .pre in
+    let went = ran _ _ (c .before .before .before .before .before .before .before .before .before .before .before .before .before .before .before .before .answer-records .ensures) (search needs) (omega arith) in
+    let kept = c .before .before .before .before .before .before .before .before .before .before .before .before .before .before .before .before .answer-records .kept in
     (record { inside = omega arith; most = omega arith; steps = omega arith; budget = omega arith }, omega arith, omega arith)
-
-same-length : tie.Need-same-length
-same-length c = search needs
 
 -- the output, through both functions that write it
 same-length-2 : tie.Need-same-length-2
-same-length-2 c = c .before .out2 .given ∙ c .before .before .before .before .before .before .before .before .before .before .before .before .before .before .before .before .before .before .before .out .given
-
-same-length-3 : tie.Need-same-length-3
-same-length-3 c = search needs
-
-same-length-4 : tie.Need-same-length-4
-same-length-4 c = search needs
-
-same-length-5 : tie.Need-same-length-5
-same-length-5 c = search needs
-
-same-length-6 : tie.Need-same-length-6
-same-length-6 c = search needs
+same-length-2 c = c .before .out2 .given ∙ c .before .before .before .before .before .before .before .before .before .before .before .before .before .before .before .before .before .before .before .before .out .given
 
 returns : tie.Need-returns
-returns c = (c .before .before .before .before .after .ensures .bounds, omega (arith, c .before .before .before .before .after .ensures .left, c .before .before .before .before .before .before .before .before .before .before .before .before .before .before .before .before .before .before .before .before .before .before .before .before .before .before .before .before .before .before .before .before .before .before .before .pre))
+returns c = (c .before .before .before .before .after .ensures .bounds, omega (arith, c .before .before .before .before .after .ensures .left, c .before .before .before .before .before .before .before .before .before .before .before .before .before .before .before .before .before .before .before .before .before .before .before .before .before .before .before .before .before .before .before .before .before .before .before .before .before .pre))
 
 pub turn-spec : {M : Type 1} → statement M
 turn-spec =
     tie.close
     (tie.spec
-    sub-answer-records
-    part-answer-records-start
-    part-answer-records-end
-    answer-records-requires
-    sub-t30
+    (λ c. search needs)
+    (λ c. search needs)
+    (λ c. search needs)
+    (λ c κs. search needs)
+    sub-t32
     after-requires
-    same-length
+    (λ c. search needs)
     same-length-2
-    same-length-3
-    same-length-4
-    same-length-5
-    same-length-6
+    (λ c. c .before .before .before .before .before .before .before .before .before .before .before .before .before .before .before .before .before .before .marks .given)
+    (λ c. c .before .before .before .before .before .before .before .before .before .before .before .before .before .before .before .before .words .given)
+    (λ c. c .before .before .before .before .before .before .before .before .before .before .before .before .before .before .bitmap .given)
+    (λ c. c .before .before .before .before .before .before .before .before .before .before .before .before .owners .given)
     returns)

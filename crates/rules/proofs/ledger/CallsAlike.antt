@@ -35,13 +35,15 @@ use Rattle.rules.specs.DeviceCalls as Device
 use Rattle.rules.specs.Declare as Declare
 use Rattle.rules.specs.Boot.{zeroTables, bootRecord, booted}
 use Rattle.rules.specs.Boot as Boot
+use Rattle.rules.specs.Report.{usedOf, maxChunk, reportOf, report}
 use Rattle.rules.specs.Calls.{perform}
 use Rattle.rules.specs.ledger.Roles.{roleOf}
-use Rattle.rules.specs.ledger.Lists.{isRefused, SameCall, same, otherWord, withoutWord, seen}
+use Rattle.rules.specs.ledger.Lists.{isRefused, SameCall, same, otherWord, otherBuffer, withoutWord, seenAnswer}
 use Rattle.rules.proofs.ledger.Marks.{page-of, page-field, page-named, mark-kind, mark-field, granted-page}
 use Rattle.rules.proofs.EachCall.{otherWords, shapeFirst, each-twice}
 use Rattle.rules.proofs.ShapeFacts.{shape-lengths}
 use Rattle.rules.proofs.promises.Boots.{record-lengths}
+use Rattle.rules.proofs.promises.Unchanged.{bytes-beside}
 use Rattle.rules.proofs.ledger.Names.{live-here}
 use Rattle.rules.proofs.ledger.OtherWords.{isHidden, SameWords, Alike, alike-words, to-alike, set-alike, fill-alike, others-alike}
 
@@ -52,7 +54,7 @@ seen-word hidden e a = rw e
 -- what two runs see of one call
 pub record SeenAlike (hides : ℕ → Bool) (c c′ : Call) (o o′ : Outcome) : Type 0 where
   pub machine : o′ .machine ≡ o .machine
-  pub answer : seen hides c (o .answer) ≡ seen hides c′ (o′ .answer)
+  pub answer : seenAnswer hides c (o .answer) ≡ seenAnswer hides c′ (o′ .answer)
   pub left : Alike hides (o .left) (o′ .left)
 
 -- the shape is the same in both, and all other checks are
@@ -99,22 +101,24 @@ module _ (m : Record) (t : Tables) (words : List ℕ) (same-length : length word
       (booted-refused (bootRecord base frames blockOrder text t))
 
 call-refused :
-    (c : Call) (text : List ℕ) (m : Record) (t : Tables) (words : List ℕ) →
-    length words ≡ length (t .words) → RefusedAlike (perform c text m t) (perform c text m (otherWords t words))
+    (c : Call) (bytes : List ℕ) (m : Record) (t : Tables) (words : List ℕ) →
+    length words ≡ length (t .words) → RefusedAlike (perform c bytes m t) (perform c bytes m (otherWords t words))
 call-refused =
     each-twice (λ c m t words o o′. length words ≡ length (t .words) → RefusedAlike o o′)
     (λ c m t words rest o o′ nums accepted same-length. checks-refused m t words same-length rest o o′ accepted)
     (λ base frames blockOrder text m t words same-length. boot-refused m t words same-length (base .0) frames blockOrder text)
 
--- the words that would have been stored may differ
+-- the words that would have been stored, and the bytes of a report's buffer, may differ
 pub refused-alike :
     (m : Record) (t : Tables) (words : List ℕ) →
     length words ≡ length (t .words) →
-    {hides : ℕ → Bool} {c d : Call} →
-    SameCall hides c d → (text : List ℕ) → RefusedAlike (perform c text m t) (perform d text m (otherWords t words))
+    {hides : ℕ → Bool} {c d : Call} {bytes bytes′ : List ℕ} →
+    SameCall hides c bytes d bytes′ → RefusedAlike (perform c bytes m t) (perform d bytes′ m (otherWords t words))
 unfolding Page.storePage pageAt
-refused-alike m t words e (same c) text = call-refused c text m t words e
-refused-alike m t words e (otherWord name word word′ chosen) text = checks-refused m t words e _ _ _ refl
+refused-alike m t words e (same c bytes) = call-refused c bytes m t words e
+refused-alike m t words e (otherWord name word word′ bytes chosen) = checks-refused m t words e _ _ _ refl
+refused-alike m t words e (otherBuffer bytes bytes′ k) =
+    rw (bytes-beside .length-alone bytes′ bytes m (otherWords t words) k) (call-refused Call.Report bytes m t words e)
 
 -- ---- a call on the runs' own tables
 
@@ -123,13 +127,13 @@ module _ (hides : ℕ → Bool) (m : Record) (t : Tables) (words : List ℕ) (s 
   t′ = otherWords t words
 
   -- a refusal, and any other answer that gives the tables back
-  unchanged : (c c′ : Call) (a a′ : Answer) → seen hides c a ≡ seen hides c′ a′ → SeenAlike hides c c′ (outcome m a t) (outcome m a′ t′)
+  unchanged : (c c′ : Call) (a a′ : Answer) → seenAnswer hides c a ≡ seenAnswer hides c′ a′ → SeenAlike hides c c′ (outcome m a t) (outcome m a′ t′)
   unchanged c c′ a a′ e = record { machine = refl; answer = e; left = to-alike hides t words s }
 
   -- a call that sets one frame
   one-frame :
       (c c′ : Call) (a : Answer) (p mark word word′ : ℕ) →
-      seen hides c a ≡ seen hides c′ a →
+      seenAnswer hides c a ≡ seenAnswer hides c′ a →
       (isHidden hides mark ≡ false → word′ ≡ word) →
       SeenAlike hides c c′ (outcome m a (setPage t (place p) mark word)) (outcome m a (setPage t′ (place p) mark word′))
   one-frame c c′ a p mark word word′ e w =
@@ -149,7 +153,7 @@ module _ (hides : ℕ → Bool) (m : Record) (t : Tables) (words : List ℕ) (s 
   -- where the refusals are seen the same, it is left to look at the call that passes its checks
   checks-alike :
       (c c′ : Call) →
-      ((number : ℕ) → seen hides c (refused number) ≡ seen hides c′ (refused number)) →
+      ((number : ℕ) → seenAnswer hides c (refused number) ≡ seenAnswer hides c′ (refused number)) →
       (rest : List Check) (o o′ : Outcome) →
       (Passed rest → SeenAlike hides c c′ o o′) →
       SeenAlike hides c c′ (shapeFirst m t rest o) (shapeFirst m t′ rest o′)
@@ -203,7 +207,7 @@ module _ (hides : ℕ → Bool) (m : Record) (t : Tables) (words : List ℕ) (s 
       let first = frameAt m p .0 in
       unchanged (Call.Read name) (Call.Read name) (done first (wordAt t p)) (done first (wordAt t′ p))
       (by-cases (hides name) (λ y. seen-word (hides name) y (done first (wordAt t p)) ∙ sym (seen-word (hides name) y (done first (wordAt t′ p))))
-      (λ n. ap (λ (x : ℕ). seen hides (Call.Read name) (done first x)) (sym (s .same (p .0) (hidden-is name live ∙ n))))))
+      (λ n. ap (λ (x : ℕ). seenAnswer hides (Call.Read name) (done first x)) (sym (s .same (p .0) (hidden-is name live ∙ n))))))
 
   device-store-alike :
       (f : Frame) (word device : ℕ) →
@@ -318,31 +322,41 @@ module _ (hides : ℕ → Bool) (m : Record) (t : Tables) (words : List ℕ) (s 
             (move-out-alike hides m count p t (otherWords t words) (to-alike hides t words s));
       })
 
-  same-alike : (c : Call) (text : List ℕ) → roleOf c .isBoot ≡ false → SeenAlike hides c c (perform c text m t) (perform c text m (otherWords t words))
-  same-alike (Call.PutMovable name) text e = put-alike hides m t words s (Call.PutMovable name) 1 name
-  same-alike (Call.PutFixed name) text e = put-alike hides m t words s (Call.PutFixed name) 3 name
-  same-alike (Call.Drop name) text e = drop-alike hides m t words s name
-  same-alike (Call.Pin name) text e = kind-alike hides m t words s (Call.Pin name) 1 2 name (page-named name (markOf name 2) (rw (mark-kind name 2 (omega arith))) (mark-field name 2 (omega arith)))
-  same-alike (Call.Unpin name) text e = kind-alike hides m t words s (Call.Unpin name) 2 1 name (page-named name (markOf name 1) (rw (mark-kind name 1 (omega arith))) (mark-field name 1 (omega arith)))
-  same-alike (Call.Store name word) text e = store-alike hides m t words s name word word (λ _. refl)
-  same-alike (Call.Read name) text e = read-alike hides m t words s name
-  same-alike (Call.Grant area count alignOrder device) text e = grant-alike area count alignOrder device
-  same-alike (Call.Release area f count device) text e = release-alike hides m t words s area f count device
-  same-alike (Call.DeviceStore f word device) text e = device-store-alike hides m t words s f word device
-  same-alike (Call.DeviceRead f device) text e = device-read-alike hides m t words s f device
-  same-alike (Call.Declare request) text e = declare-alike hides m t words s request
-  same-alike (Call.Boot base frames blockOrder) text e = clash true refl e
+  report-alike : (bytes : List ℕ) → SeenAlike hides Call.Report Call.Report (report m bytes t) (report m bytes (otherWords t words))
+  unfolding report reportOf usedOf maxChunk
+  report-alike bytes =
+      checks-alike hides m t words s Call.Report Call.Report (λ _. refl) _ _ _
+      (λ passed. unchanged hides m t words s Call.Report Call.Report (done (length (reportOf m t)) 0) (done (length (reportOf m t)) 0) refl)
+
+  same-alike : (c : Call) (bytes : List ℕ) → roleOf c .isBoot ≡ false → SeenAlike hides c c (perform c bytes m t) (perform c bytes m (otherWords t words))
+  same-alike (Call.PutMovable name) bytes e = put-alike hides m t words s (Call.PutMovable name) 1 name
+  same-alike (Call.PutFixed name) bytes e = put-alike hides m t words s (Call.PutFixed name) 3 name
+  same-alike (Call.Drop name) bytes e = drop-alike hides m t words s name
+  same-alike (Call.Pin name) bytes e = kind-alike hides m t words s (Call.Pin name) 1 2 name (page-named name (markOf name 2) (rw (mark-kind name 2 (omega arith))) (mark-field name 2 (omega arith)))
+  same-alike (Call.Unpin name) bytes e = kind-alike hides m t words s (Call.Unpin name) 2 1 name (page-named name (markOf name 1) (rw (mark-kind name 1 (omega arith))) (mark-field name 1 (omega arith)))
+  same-alike (Call.Store name word) bytes e = store-alike hides m t words s name word word (λ _. refl)
+  same-alike (Call.Read name) bytes e = read-alike hides m t words s name
+  same-alike (Call.Grant area count alignOrder device) bytes e = grant-alike area count alignOrder device
+  same-alike (Call.Release area f count device) bytes e = release-alike hides m t words s area f count device
+  same-alike (Call.DeviceStore f word device) bytes e = device-store-alike hides m t words s f word device
+  same-alike (Call.DeviceRead f device) bytes e = device-read-alike hides m t words s f device
+  same-alike (Call.Declare request) bytes e = declare-alike hides m t words s request
+  same-alike (Call.Boot base frames blockOrder) bytes e = clash true refl e
+  same-alike Call.Report bytes e = report-alike bytes
 
 call-alike :
-    (hides : ℕ → Bool) (m : Record) (t : Tables) (words : List ℕ) (s : SameWords hides t words) {c d : Call} →
-    SameCall hides c d →
-    (text : List ℕ) → roleOf c .isBoot ≡ false → SeenAlike hides c d (perform c text m t) (perform d text m (otherWords t words))
-call-alike hides m t words s (same c) text b = same-alike hides m t words s c text b
-call-alike hides m t words s (otherWord name word word′ e) text b = store-alike hides m t words s name word word′ (λ n. clash (hides name) e n)
+    (hides : ℕ → Bool) (m : Record) (t : Tables) (words : List ℕ) (s : SameWords hides t words) {c d : Call} {bytes bytes′ : List ℕ} →
+    SameCall hides c bytes d bytes′ →
+    roleOf c .isBoot ≡ false → SeenAlike hides c d (perform c bytes m t) (perform d bytes′ m (otherWords t words))
+call-alike hides m t words s (same c bytes) b = same-alike hides m t words s c bytes b
+call-alike hides m t words s (otherWord name word word′ bytes e) b = store-alike hides m t words s name word word′ (λ n. clash (hides name) e n)
+call-alike hides m t words s (otherBuffer bytes bytes′ e) b =
+    rw (bytes-beside .length-alone bytes′ bytes m (otherWords t words) e) (report-alike hides m t words s bytes)
 
 pub own-alike :
-    (hides : ℕ → Bool) (m m′ : Record) (t t′ : Tables) (c d : Call) (text : List ℕ) →
-    SameCall hides c d → roleOf c .isBoot ≡ false → m′ ≡ m → Alike hides t t′ → SeenAlike hides c d (perform c text m t) (perform d text m′ t′)
-own-alike hides m m′ t t′ c d text call b e a =
-    subst (λ (x : Record). SeenAlike hides c d (perform c text m t) (perform d text x t′)) (sym e)
-    (alike-words hides t t′ (λ x. SeenAlike hides c d (perform c text m t) (perform d text m x)) a (λ words s. call-alike hides m t words s call text b))
+    (hides : ℕ → Bool) (m m′ : Record) (t t′ : Tables) {c d : Call} {bytes bytes′ : List ℕ} →
+    SameCall hides c bytes d bytes′ →
+    roleOf c .isBoot ≡ false → m′ ≡ m → Alike hides t t′ → SeenAlike hides c d (perform c bytes m t) (perform d bytes′ m′ t′)
+own-alike hides m m′ t t′ {c} {d} {bytes} {bytes′} call b e a =
+    subst (λ (x : Record). SeenAlike hides c d (perform c bytes m t) (perform d bytes′ x t′)) (sym e)
+    (alike-words hides t t′ (λ x. SeenAlike hides c d (perform c bytes m t) (perform d bytes′ m x)) a (λ words s. call-alike hides m t words s call b))

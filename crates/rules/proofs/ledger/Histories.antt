@@ -10,6 +10,7 @@ use Rattle.frames.specs.declared.Place.{Place}
 use Rattle.frames.specs.Tables.{Tables}
 use Rattle.rules.specs.declared.Call.{Call}
 use Rattle.rules.specs.declared.Call.the-variants as Call
+use Rattle.rules.specs.declared.Counters.{Counters}
 use Rattle.rules.specs.declared.Record.{Record}
 use Rattle.rules.specs.PageCalls.{pageAt}
 use Rattle.rules.specs.Calls.{perform}
@@ -24,29 +25,31 @@ use Rattle.rules.proofs.ledger.DeviceWords.{device-store-kept, device-r
 use Rattle.rules.proofs.ledger.Release.{release-kept}
 use Rattle.rules.proofs.ledger.GrantCall.{grant-kept}
 use Rattle.rules.proofs.ledger.DeclareCall.{declare-kept}
-use Rattle.rules.proofs.ledger.Items.{refused-item, item-cases}
+use Rattle.rules.proofs.ledger.ReportCall.{report-kept}
+use Rattle.rules.proofs.ledger.Items.{withCounters, countersAfter, refused-item, item-cases}
 
 -- ---- one call
 
 module _ (m : Record) (t : Tables) (l : Ledger) (s : Sound m t l) where
-  pub perform-kept : (c : Call) (text : List ℕ) → roleOf c .isBoot ≡ false → Kept c m t l (perform c text m t)
-  perform-kept (Call.PutMovable name) text e =
+  pub perform-kept : (c : Call) (bytes : List ℕ) → roleOf c .isBoot ≡ false → Kept c m t l (perform c bytes m t)
+  perform-kept (Call.PutMovable name) bytes e =
       put-kept m t l s name (Call.PutMovable name) 1 (record { small = omega arith; page = refl; pin = refl; full = refl; ungranted = refl })
       (λ k. clash false k refl) (λ _. refl)
-  perform-kept (Call.PutFixed name) text e =
+  perform-kept (Call.PutFixed name) bytes e =
       put-kept m t l s name (Call.PutFixed name) 3 (record { small = omega arith; page = refl; pin = refl; full = refl; ungranted = refl }) (λ _. refl)
       (λ _. refl)
-  perform-kept (Call.Drop name) text e = drop-kept m t l s name
-  perform-kept (Call.Pin name) text e = pin-kept m t l s name
-  perform-kept (Call.Unpin name) text e = unpin-kept m t l s name
-  perform-kept (Call.Store name word) text e = store-kept m t l s name word
-  perform-kept (Call.Read name) text e = read-kept m t l s name
-  perform-kept (Call.Grant area count alignOrder device) text e = grant-kept m t l s area count device alignOrder
-  perform-kept (Call.Release area f count device) text e = release-kept m t l s area f count device
-  perform-kept (Call.DeviceStore f word device) text e = device-store-kept m t l s f word device
-  perform-kept (Call.DeviceRead f device) text e = device-read-kept m t l s f device
-  perform-kept (Call.Declare request) text e = declare-kept m request t l s
-  perform-kept (Call.Boot base frames blockOrder) text e = clash true refl e
+  perform-kept (Call.Drop name) bytes e = drop-kept m t l s name
+  perform-kept (Call.Pin name) bytes e = pin-kept m t l s name
+  perform-kept (Call.Unpin name) bytes e = unpin-kept m t l s name
+  perform-kept (Call.Store name word) bytes e = store-kept m t l s name word
+  perform-kept (Call.Read name) bytes e = read-kept m t l s name
+  perform-kept (Call.Grant area count alignOrder device) bytes e = grant-kept m t l s area count device alignOrder
+  perform-kept (Call.Release area f count device) bytes e = release-kept m t l s area f count device
+  perform-kept (Call.DeviceStore f word device) bytes e = device-store-kept m t l s f word device
+  perform-kept (Call.DeviceRead f device) bytes e = device-read-kept m t l s f device
+  perform-kept (Call.Declare request) bytes e = declare-kept m request t l s
+  perform-kept (Call.Boot base frames blockOrder) bytes e = clash true refl e
+  perform-kept Call.Report bytes e = report-kept m t l s bytes
 
 -- ---- one item
 
@@ -62,29 +65,30 @@ pub record ItemKept (s : State) (x : Item) : Type 0 where
   pub wasPinned : (name : ℕ) → pinsNow s x name ≡ false → next s x .ledger .pinned name ≡ true → s .ledger .pinned name ≡ true
   pub stays : (name : ℕ) → pinsNow s x name ≡ false → next s x .ledger .pinned name ≡ true → frameOfPage (next s x) name ≡ frameOfPage s name
 
-same-kept : (s : State) (x : Item) → SoundState s → next s x ≡ s → ItemKept s x
-same-kept s x sound same =
+-- a state that is the same but for its counters
+same-kept : (s : State) (x : Item) (c : Counters) → SoundState s → next s x ≡ withCounters s c → ItemKept s x
+same-kept s x c sound same =
     record {
       sound = subst SoundState (sym same) sound;
       wasPinned = λ name a b. sym (ap (λ (k : State). k .ledger .pinned name) same) ∙ b;
       stays = λ name a b. ap (λ (k : State). frameOfPage k name) same;
     }
 
-call-kept : (s : State) (c : Call) (text : List ℕ) → SoundState s → roleOf c .isBoot ≡ false → ItemKept s (itemWith c text own own own own)
+call-kept : (s : State) (c : Call) (bytes : List ℕ) → SoundState s → roleOf c .isBoot ≡ false → ItemKept s (itemWith c bytes own own own own)
 unfolding next
-call-kept s c text sound e =
-    let kept = perform-kept (s .machine) (s .own) (s .ledger) sound c text e in
+call-kept s c bytes sound e =
+    let kept = perform-kept (s .machine) (s .own) (s .ledger) sound c bytes e in
     record {
       sound = kept .sound;
       wasPinned = λ name a b. kept .pins name a b .wasPinned;
       stays = λ name a b.
           let k = kept .pins name a b in
-          ap (λ (p : Place). perform c text (s .machine) (s .own) .machine .memory .base .0 + p .0) (k .place) ∙
+          ap (λ (p : Place). perform c bytes (s .machine) (s .own) .machine .memory .base .0 + p .0) (k .place) ∙
           ap (λ (x : ℕ). x + pageAt (s .machine) (s .own) name .0) (k .base);
     }
 
 pub item-kept : (s : State) (x : Item) → SoundState s → (isRefused (outcomeIn s x) || mayPass x) ≡ true → ItemKept s x
-item-kept s x sound e = item-cases (ItemKept s) s x e (λ r. same-kept s x sound (refused-item s x r)) (call-kept s (x .call) (x .text) sound)
+item-kept s x sound e = item-cases (ItemKept s) s x e (λ r. same-kept s x (countersAfter s x) sound (refused-item s x r)) (call-kept s (x .call) (x .bytes) sound)
 
 -- ---- a list
 

@@ -1,13 +1,14 @@
 -- The theorem at one boot and one list: its hypotheses hold there, and what it says is computed. Assumes nothing.
-use Prim.Native.Nat.{ℕ}
+use Prim.Native.Nat.{ℕ, _<_}
 use mathlib.Core.Bool.{Bool, true, false, not, _&&_}
 use lib.Dec.{eqb}
-use mathlib.Core.List.{List, [], _∷_, _++_}
+use mathlib.Core.List.{List, [], _∷_, _++_, map, flatMap}
+use lib.ListN.{length, replicate}
 use native.Mathlib.Omega.{arith}
 use mathlib.Core.Logic.{_≢_}
 use mathlib.Core.Path.{_≡_, refl, ap, subst, _∙_}
 use Rattle.answer.specs.Answers.{done, refused, refusedAt}
-use Rattle.search.specs.Search.{lowestFrom, lowest, some, every, howMany, highestFrom}
+use Rattle.search.specs.Search.{lowestFrom, lowest, some, every, howMany, highestFrom, stretch, longest}
 use Rattle.bitmap.specs.Bits.{isClear, changeBit, changeBits}
 use Rattle.frames.specs.Units.{frame}
 use Rattle.rules.specs.Record.{placeOf}
@@ -17,16 +18,19 @@ use Rattle.frames.specs.Tables.{ownerAt, fill}
 use Rattle.text.specs.Bytes.{digitOf, unitOf, isNameByte}
 use Rattle.text.specs.Names.{nameLength, sameBytes}
 use Rattle.text.specs.Numbers.{digitsEnd, digitsValue, digits, number}
+use Rattle.text.specs.Writing.{decimalUpTo, decimal, fourNumbers}
 use Rattle.regions.specs.Amounts.{isPowerOfTwo, amount}
 use Rattle.regions.specs.Text.{isNamed, region, regionsFrom, regions}
 use Rattle.rules.specs.Shape.{memoryRight, lengthsRight, areaRight, areaFits, shapeRight}
 use Rattle.rules.specs.Outcomes.{checked}
 use Rattle.rules.specs.PageCalls.{pageAt, freeOrdinary, freeInArea, putAt, putPage, dropPage, changeKind, storePage, readPage}
 use Rattle.rules.specs.DeviceCalls.{isCandidate, isGrantable, chosen, movers, targets, movePage, moveOut, takeRun, grant, laterFrames, freeRun, release, deviceStore, deviceRead}
+use Rattle.rules.specs.Counters.{counters, afterGrant, since}
+use Rattle.rules.specs.Report.{usedOf, maxChunk, sumOver, amountLine, areaLine, linesOver, reportOf, report, reported}
 use Rattle.rules.specs.Declare.{alignmentFor, baseFor, sizeFor, limitFor, isVacant, fitsAt, highestFit, declare}
 use Rattle.rules.specs.Boot.{declareAll, bootRecord, boot}
 use Rattle.rules.specs.ledger.Ledger.{grantOf, grantsAt, without, update}
-use Rattle.rules.specs.ledger.Lists.{Item, State, isRefused, next, after, admitted, frameOfPage, lastPinFrame, SameList, same, otherWord, none, more, seenAnswers}
+use Rattle.rules.specs.ledger.Lists.{Item, State, isRefused, next, after, admitted, frameOfPage, lastPinFrame, grantsAnswered, isDone, SameList, same, otherWord, otherBuffer, none, more, seen, Seen}
 use Rattle.rules.specs.ledger.Statement.{pageRead, frameRead, frameRelease, markOfPage, isGrantedPlace, isLiveFrame, deviceOf, outcomeOfBoot, startOfBoot, Demand3}
 use Rattle.rules.specs.ledger.Instance.{instanceBoot, placed, afterStores, instanceList, fiveAndSix}
 use Rattle.rules.proofs.ledger.Demand3.{theorem}
@@ -44,7 +48,7 @@ record Computed : Type 0 where
   pub admits : admitted start (instanceList 77) ≡ true
   -- every answer
   pub answers :
-      seenAnswers (λ _. false) start (instanceList 77) ≡
+      map (λ (x : Seen). x .answer) (seen (λ _. false) start (instanceList 77)) ≡
       -- placed
       done 12 4 ∷
       done 4 0 ∷
@@ -74,6 +78,7 @@ record Computed : Type 0 where
       refused 2 ∷
       refused 2 ∷
       refusedAt 1 0 ∷
+      refused 16 ∷
       -- refusedOnOthers
       refused 6 ∷
       refused 4 ∷
@@ -89,6 +94,7 @@ record Computed : Type 0 where
       refused 3 ∷
       refused 1 ∷
       refusedAt 20 0 ∷
+      refused 1 ∷
       -- granted
       done 0 0 ∷
       done 0 0 ∷
@@ -104,7 +110,29 @@ record Computed : Type 0 where
       done 6 33 ∷
       refused 15 ∷
       done 55 0 ∷
+      -- the report
+      done 57 0 ∷
       []
+  -- its bytes, and none of any other call
+  pub reports :
+      flatMap (λ (x : Seen). x .report) (seen (λ _. false) start (instanceList 77)) ≡
+      -- CmaTotal: 32 kB
+      67 ∷ 109 ∷ 97 ∷ 84 ∷ 111 ∷ 116 ∷ 97 ∷ 108 ∷ 58 ∷ 32 ∷ 51 ∷ 50 ∷ 32 ∷ 107 ∷ 66 ∷ 10 ∷
+      -- CmaFree: 28 kB
+      67 ∷ 109 ∷ 97 ∷ 70 ∷ 114 ∷ 101 ∷ 101 ∷ 58 ∷ 32 ∷ 50 ∷ 56 ∷ 32 ∷ 107 ∷ 66 ∷ 10 ∷
+      -- area 0 4 1 2
+      97 ∷ 114 ∷ 101 ∷ 97 ∷ 32 ∷ 48 ∷ 32 ∷ 52 ∷ 32 ∷ 49 ∷ 32 ∷ 50 ∷ 10 ∷
+      -- area 1 4 0 4
+      97 ∷ 114 ∷ 101 ∷ 97 ∷ 32 ∷ 49 ∷ 32 ∷ 52 ∷ 32 ∷ 48 ∷ 32 ∷ 52 ∷ 10 ∷
+      []
+  -- two grants were accepted; one was refused by its page, which had nowhere to go, and one by its bits
+  pub counted : end .counters ≡ counters 2 2
+  -- each is seen right after the call that it counts
+  pub seenCounters :
+      map (λ (x : Seen). x .counters) (seen (λ _. false) start (instanceList 77)) ≡
+      replicate 20 (counters 0 0) ++ replicate 14 (counters 0 1) ++ replicate 10 (counters 0 2) ++ (counters 1 2 ∷ replicate 12 (counters 2 2))
+  pub two : grantsAnswered isDone (after start []) (instanceList 77) ≡ 2
+  pub short : length (instanceList 77) < 4294967296
   -- the ledger: pages 6 and 2, the pin of page 5 and the unpin of page 6, the one live grant, its word, and the totals
   pub six-live : end .ledger .live 6 ≡ true
   pub six-word : end .ledger .word 6 ≡ 77
@@ -123,12 +151,17 @@ record Computed : Type 0 where
   pub released : end .ledger .released ≡ 2
 
 computed : Computed
-unfolding after admitted lastPinFrame seenAnswers next update grantsAt without lowestFrom lowest some every howMany highestFrom isClear changeBit changeBits inAreas firstWord fill digitOf digitsEnd digitsValue unitOf digits number isPowerOfTwo amount isNameByte nameLength isNamed sameBytes region regionsFrom regions memoryRight lengthsRight areaRight areaFits shapeRight checked pageAt freeOrdinary freeInArea putAt putPage dropPage changeKind storePage readPage isCandidate isGrantable chosen movers targets movePage moveOut takeRun grant laterFrames freeRun release deviceStore deviceRead alignmentFor baseFor sizeFor limitFor isVacant fitsAt highestFit declare declareAll bootRecord boot
+unfolding flatMap grantsAnswered after admitted lastPinFrame seen next afterGrant report reported reportOf usedOf maxChunk amountLine areaLine sumOver linesOver fourNumbers decimal decimalUpTo longest stretch update grantsAt without lowestFrom lowest some every howMany highestFrom isClear changeBit changeBits inAreas firstWord fill digitOf digitsEnd digitsValue unitOf digits number isPowerOfTwo amount isNameByte nameLength isNamed sameBytes region regionsFrom regions memoryRight lengthsRight areaRight areaFits shapeRight checked pageAt freeOrdinary freeInArea putAt putPage dropPage changeKind storePage readPage isCandidate isGrantable chosen movers targets movePage moveOut takeRun grant laterFrames freeRun release deviceStore deviceRead alignmentFor baseFor sizeFor limitFor isVacant fitsAt highestFit declare declareAll bootRecord boot
 computed =
     record {
       accepted = refl;
       admits = refl;
       answers = refl;
+      reports = refl;
+      counted = refl;
+      seenCounters = refl;
+      two = refl;
+      short = omega arith;
       six-live = refl;
       six-word = refl;
       two-gone = refl;
@@ -194,19 +227,26 @@ nine-owner = demand3-here .owners .owner (frame 9) (computed .nine-live) ∙ com
 pub nine-kept : frameRelease end 0 (frame 9) 1 8 .left ≡ end .own
 nine-kept = demand3-here .owners .releases 0 (frame 9) 1 8 (λ _ e. absurd (omega (arith, computed .nine-device))) .2
 
--- (6) other words to pages 6 and 5, after a boot on other tables: the same answers, but for the words that reads of these pages give
+-- (6) two grants were accepted, from the list's start to its end
+pub two-granted : since (end .counters .granted) (after start [] .counters .granted) ≡ 2
+two-granted = demand3-here .counters .granted [] (instanceList 77) refl (computed .short) ∙ computed .two
+
+-- (7) other words to pages 6 and 5 and other bytes in the report's buffer, after a boot on other tables: the same answers, but for the words that
+-- reads of these pages give, the same counters and the same report
 same-first :
     (chosen : ℕ → Bool) (first : List Item) {xs ys : List Item} → SameList chosen xs ys → SameList chosen (first ++ xs) (first ++ ys)
 same-first chosen [] rest = rest
-same-first chosen (x ∷ first) rest = more (same (x .call)) (same-first chosen first rest)
+same-first chosen (x ∷ first) rest = more (same (x .call) (x .bytes)) (same-first chosen first rest)
 
 other-words : SameList fiveAndSix (instanceList 77) (instanceList 78)
 other-words =
     same-first fiveAndSix placed
-    (more (otherWord 6 77 78 refl) (more (otherWord 5 77 78 refl) (more (otherWord 6 77 78 refl) (same-first fiveAndSix afterStores none))))
+    (more (otherWord 6 77 78 [] refl)
+    (more (otherWord 5 77 78 [] refl)
+    (more (otherWord 6 77 78 [] refl)
+    (same-first fiveAndSix afterStores (more (otherBuffer (replicate 60 77) (replicate 60 78) refl) none)))))
 
-pub runs-agree :
-    seenAnswers fiveAndSix (startOfBoot (instanceBoot 9)) (instanceList 77) ≡ seenAnswers fiveAndSix (startOfBoot (instanceBoot 3)) (instanceList 78)
+pub runs-agree : seen fiveAndSix (startOfBoot (instanceBoot 9)) (instanceList 77) ≡ seen fiveAndSix (startOfBoot (instanceBoot 3)) (instanceList 78)
 runs-agree =
     demand3-here .runs (instanceBoot 3)
     (record { base = refl; frames = refl; blockOrder = refl; text = refl; lengths = record { marks = refl; words = refl; bitmap = refl; owners = refl } }) .agree fiveAndSix

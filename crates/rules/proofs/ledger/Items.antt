@@ -1,5 +1,5 @@
 -- One item of a list. Assumes nothing.
---     refused-item    an item that is refused leaves everything as it was, whatever it is lent
+--     refused-item    an item that is refused leaves everything but the counters as it was, whatever it is lent
 --     item-cases      an item of an admitted list is refused, or is no boot and lent the boot's own tables
 use mathlib.Core.Bool.{Bool, true, false, not, _&&_, _||_, true≢false}
 use mathlib.Core.List.{List}
@@ -9,6 +9,8 @@ use borrow.Author.Tests.{not-true, eqb-false}
 use Rattle.search.proofs.Bools.{by-cases, and-left, and-right}
 use Rattle.frames.specs.Tables.{Tables, tables}
 use Rattle.rules.specs.declared.Call.{Call}
+use Rattle.rules.specs.declared.Counters.{Counters}
+use Rattle.rules.specs.Counters.{counted}
 use Rattle.rules.specs.ledger.Roles.{roleOf, fed}
 use Rattle.rules.specs.ledger.Lists.{Source, own, another, Item, itemWith, State, isRefused, lentAs, keptAs, lentTo, outcomeIn, ownAfter, next, isOwn, mayPass}
 use Rattle.rules.proofs.promises.Unchanged.{refusal-changes-nothing}
@@ -23,24 +25,32 @@ own-kept x was = λ i.
     tables (kept-as (x .marks) (was .marks) i) (kept-as (x .words) (was .words) i) (kept-as (x .bitmap) (was .bitmap) i)
     (kept-as (x .owners) (was .owners) i)
 
-pub refused-item : (s : State) (x : Item) → isRefused (outcomeIn s x) ≡ true → next s x ≡ s
+-- a state with other counters
+abbrev pub withCounters : State → Counters → State
+withCounters s c = record { machine = s .machine; counters = c; own = s .own; ledger = s .ledger }
+
+-- the counters after an item
+abbrev pub countersAfter : State → Item → Counters
+countersAfter s x = counted (x .call) (outcomeIn s x .answer .refusal) (s .counters)
+
+pub refused-item : (s : State) (x : Item) → isRefused (outcomeIn s x) ≡ true → next s x ≡ withCounters s (countersAfter s x)
 unfolding next
 refused-item s x e =
     let o = outcomeIn s x in
-    let same = refusal-changes-nothing (x .call) (x .text) (s .machine) (lentTo x (s .own)) (eqb-false (o .answer .refusal) 0 (not-true _ e)) in
+    let same = refusal-changes-nothing (x .call) (x .bytes) (s .machine) (s .counters) (lentTo x (s .own)) (eqb-false (o .answer .refusal) 0 (not-true _ e)) in
     let kept : ownAfter x (s .own) (o .left) ≡ s .own = ap (ownAfter x (s .own)) (same .1) ∙ own-kept x (s .own) in
     let told = ap (λ (b : Bool). fed (x .call) b (o .answer .first) (s .ledger)) e in
-    λ i. record { machine = same .0 i; own = kept i; ledger = told i }
+    λ i. record { machine = same .0 i; counters = countersAfter s x; own = kept i; ledger = told i }
 
 own-is : (l : Source) → isOwn l ≡ true → l ≡ own
 own-is own e = refl
 own-is (another table) e = absurd (true≢false (sym e))
 
 passing :
-    (P : Item → Type 0) (c : Call) (text : List ℕ) (marks words bitmap owners : Source) →
-    let x = itemWith c text marks words bitmap owners in
-    mayPass x ≡ true → (roleOf c .isBoot ≡ false → P (itemWith c text own own own own)) → P x
-passing P c text marks words bitmap owners e passes =
+    (P : Item → Type 0) (c : Call) (bytes : List ℕ) (marks words bitmap owners : Source) →
+    let x = itemWith c bytes marks words bitmap owners in
+    mayPass x ≡ true → (roleOf c .isBoot ≡ false → P (itemWith c bytes own own own own)) → P x
+passing P c bytes marks words bitmap owners e passes =
     let last = not (roleOf c .isBoot) && isOwn marks && isOwn words in
     let three = and-left (last && isOwn bitmap) (isOwn owners) e in
     let first = and-left last (isOwn bitmap) three in
@@ -57,7 +67,7 @@ passing P c text marks words bitmap owners e passes =
 pub item-cases :
     (P : Item → Type 0) (s : State) (x : Item) →
     (isRefused (outcomeIn s x) || mayPass x) ≡ true →
-    (isRefused (outcomeIn s x) ≡ true → P x) → (roleOf (x .call) .isBoot ≡ false → P (itemWith (x .call) (x .text) own own own own)) → P x
+    (isRefused (outcomeIn s x) ≡ true → P x) → (roleOf (x .call) .isBoot ≡ false → P (itemWith (x .call) (x .bytes) own own own own)) → P x
 item-cases P s x e refused passes =
     by-cases (isRefused (outcomeIn s x)) refused
-    (λ n. passing P (x .call) (x .text) (x .marks) (x .words) (x .bitmap) (x .owners) (ap (λ (b : Bool). b || mayPass x) (sym n) ∙ e) passes)
+    (λ n. passing P (x .call) (x .bytes) (x .marks) (x .words) (x .bitmap) (x .owners) (ap (λ (b : Bool). b || mayPass x) (sym n) ∙ e) passes)

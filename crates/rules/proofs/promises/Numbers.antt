@@ -3,6 +3,7 @@ use Prim.Native.Nat.{ℕ}
 use mathlib.Core.Path.{_≡_, refl}
 use mathlib.Core.Logic.{_≢_}
 use mathlib.Core.List.{List}
+use lib.ListN.{length}
 use Rattle.frames.specs.declared.Frame.{Frame}
 use Rattle.frames.specs.Tables.{Tables}
 use Rattle.rules.specs.declared.Call.{Call}
@@ -11,10 +12,11 @@ use Rattle.rules.specs.declared.Record.{Record}
 use Rattle.rules.specs.Outcomes.{Outcome, Check}
 use Rattle.rules.specs.PageCalls as Page
 use Rattle.rules.specs.DeviceCalls as Device
+use Rattle.rules.specs.Report.{reportOf, report}
 use Rattle.rules.specs.promises.Numbers.{_answers_otherwise_, accepted, WrongShape, BadName, NotLive, BadFrame, NotGranted, NotOwner, RefusedExactly, RefusalHasZeros}
 use Rattle.rules.proofs.Checks.{checked-cases}
 use Rattle.rules.proofs.EachCall.{each-call}
-use Rattle.rules.proofs.Says.{says-not}
+use Rattle.rules.proofs.Says.{says-ltb, says-not}
 use Rattle.rules.proofs.promises.Ladder.{Ladder, rung, foot, exactly}
 use Rattle.rules.proofs.promises.Shapes.{wrong-shape}
 use Rattle.rules.proofs.promises.PageNumbers.{bad-name, page-is, put-movable, put-fixed}
@@ -45,24 +47,24 @@ used m t f device done =
     (λ _. rung (bad-frame m t f device) (λ _. rung (not-granted m t f device) (λ _. rung (not-owner m t f device) (λ _. foot done))))
 
 pub refused-exactly : RefusedExactly
-unfolding Page.putPage Page.dropPage Page.changeKind Page.storePage Page.readPage Device.grant Device.release Device.deviceStore Device.deviceRead
-refused-exactly (Call.PutMovable name) text m t =
+unfolding Page.putPage Page.dropPage Page.changeKind Page.storePage Page.readPage Device.grant Device.release Device.deviceStore Device.deviceRead report
+refused-exactly (Call.PutMovable name) bytes m t =
     exactly (rung (wrong-shape m t) (λ _. rung (bad-name name) (λ _. rung (live m t name) (λ _. rung (put-movable m t) (λ _. foot refl)))))
-refused-exactly (Call.PutFixed name) text m t =
+refused-exactly (Call.PutFixed name) bytes m t =
     exactly (rung (wrong-shape m t) (λ _. rung (bad-name name) (λ _. rung (live m t name) (λ _. rung (put-fixed m t) (λ _. foot refl)))))
-refused-exactly (Call.Drop name) text m t = exactly (looked-up m t name (λ lives. rung (page-is m t name 2 lives) (λ _. foot refl)))
-refused-exactly (Call.Pin name) text m t = exactly (looked-up m t name (λ lives. rung (says-not (page-is m t name 1 lives)) (λ _. foot refl)))
-refused-exactly (Call.Unpin name) text m t = exactly (looked-up m t name (λ lives. rung (says-not (page-is m t name 2 lives)) (λ _. foot refl)))
-refused-exactly (Call.Store name word) text m t = exactly (looked-up m t name (λ lives. rung (page-is m t name 2 lives) (λ _. foot refl)))
-refused-exactly (Call.Read name) text m t = exactly (looked-up m t name (λ _. foot refl))
-refused-exactly (Call.Grant i count alignOrder device) text m t =
+refused-exactly (Call.Drop name) bytes m t = exactly (looked-up m t name (λ lives. rung (page-is m t name 2 lives) (λ _. foot refl)))
+refused-exactly (Call.Pin name) bytes m t = exactly (looked-up m t name (λ lives. rung (says-not (page-is m t name 1 lives)) (λ _. foot refl)))
+refused-exactly (Call.Unpin name) bytes m t = exactly (looked-up m t name (λ lives. rung (says-not (page-is m t name 2 lives)) (λ _. foot refl)))
+refused-exactly (Call.Store name word) bytes m t = exactly (looked-up m t name (λ lives. rung (page-is m t name 2 lives) (λ _. foot refl)))
+refused-exactly (Call.Read name) bytes m t = exactly (looked-up m t name (λ _. foot refl))
+refused-exactly (Call.Grant i count alignOrder device) bytes m t =
     exactly
     (rung (wrong-shape m t)
     (λ _.
     rung (bad-grant m t i count alignOrder device)
     (λ good.
     rung (no-run m t i count alignOrder device good) (λ run. rung (no-targets m t i count alignOrder device good run) (λ _. foot refl)))))
-refused-exactly (Call.Release i f count device) text m t =
+refused-exactly (Call.Release i f count device) bytes m t =
     exactly
     (rung (wrong-shape m t)
     (λ _.
@@ -70,12 +72,14 @@ refused-exactly (Call.Release i f count device) text m t =
     (λ _.
     rung (no-grant m t i f count device)
     (λ _. rung (not-owner m t f device) (λ _. rung (disagrees m t i f count device) (λ _. foot refl))))))
-refused-exactly (Call.DeviceStore f word device) text m t = exactly (used m t f device refl)
-refused-exactly (Call.DeviceRead f device) text m t = exactly (used m t f device refl)
-refused-exactly (Call.Declare r) text m t = declare-exactly m r t
-refused-exactly (Call.Boot base frames blockOrder) text m t = λ n.
-    let exact = boot-answers-place base frames blockOrder text m t .0 in
+refused-exactly (Call.DeviceStore f word device) bytes m t = exactly (used m t f device refl)
+refused-exactly (Call.DeviceRead f device) bytes m t = exactly (used m t f device refl)
+refused-exactly (Call.Declare r) bytes m t = declare-exactly m r t
+refused-exactly (Call.Boot base frames blockOrder) bytes m t = λ n.
+    let exact = boot-answers-place base frames blockOrder bytes m t .0 in
     (λ e. (_, exact n _ .0 (e, refl)), λ w. exact n (w .0) .1 (w .1) .0)
+refused-exactly Call.Report bytes m t =
+    exactly (rung (wrong-shape m t) (λ _. rung (says-ltb (length bytes) (length (reportOf m t))) (λ _. foot refl)))
 
 -- a refusal of one of a call's checks has two zeros
 abbrev HasZeros : Outcome → Type 0

@@ -9,6 +9,7 @@ use Rattle.frames.specs.Tables.{Tables, tables}
 use Rattle.rules.specs.declared.Call.the-variants as Call
 use Rattle.rules.specs.declared.Request.{Request}
 use Rattle.rules.specs.Record.{freshRecord}
+use Rattle.rules.specs.Counters.{counters}
 use Rattle.rules.specs.ledger.Lists.{Source, own, another, Item, itemWith, item, onOwn}
 use Rattle.rules.specs.ledger.Statement.{Boot}
 
@@ -25,6 +26,7 @@ instanceBoot v =
       blockOrder = 2;
       text = 97 ∷ 61 ∷ 49 ∷ 54 ∷ 75 ∷ 64 ∷ 51 ∷ 50 ∷ 55 ∷ 54 ∷ 56 ∷ [];
       given = freshRecord;
+      counters = counters v v;
       lent = tablesOf v;
     }
 
@@ -84,6 +86,7 @@ refusedOnOwn =
     onOwn (Call.DeviceRead (frame 16) 7) ∷
     onOwn (Call.Declare noFrames) ∷
     onOwn (Call.Boot (frame 0) 12 2) ∷
+    onOwn Call.Report ∷
     []
 
 -- every call, refused where one table that it is lent, or more, or all four are others: by what those hold, or by their lengths
@@ -109,6 +112,8 @@ refusedOnOthers =
     item (Call.DeviceRead (frame 9) 7) empty empty empty empty ∷
     -- a text that starts with ;
     itemWith (Call.Boot (frame 4) 12 2) (59 ∷ []) (perFrame 7) own (perWord 7) own ∷
+    -- marks with no entries
+    itemWith Call.Report (replicate 60 0) empty own own own ∷
     []
 
 -- page 2 leaves frame 5, so the grant now moves page 6 there from frame 9. The other area's grant is released again, once its two frames are counted
@@ -134,8 +139,12 @@ granted =
 abbrev pub afterStores : List Item
 afterStores = refusedOnOwn ++ refusedOnOthers ++ granted
 
+-- a report to a buffer of 60 bytes, which two runs may find filled with other bytes
+abbrev pub reportTo : ℕ → Item
+reportTo byte = itemWith Call.Report (replicate 60 byte) own own own own
+
 abbrev pub instanceList : ℕ → List Item
-instanceList word = placed ++ stored word ++ afterStores
+instanceList word = placed ++ stored word ++ afterStores ++ (reportTo word ∷ [])
 
 -- the chosen set of names
 abbrev pub fiveAndSix : ℕ → Bool

@@ -1,19 +1,22 @@
 -- Document 01, "The ledger of demand 3": the lists of calls that follow one accepted boot, and what a list leaves.
-use Prim.Native.Nat.{ℕ}
+use Prim.Native.Nat.{ℕ, _+_}
 use mathlib.Core.Bool.{Bool, true, false, not, _&&_, _||_}
 use mathlib.Core.List.{List, [], _∷_}
 use mathlib.Core.Path.{_≡_}
 use lib.Dec.{eqb}
+use lib.ListN.{length, take}
 use Rattle.search.specs.Choice.{if_then_else_}
 use Rattle.answer.specs.declared.Answer.{Answer}
 use Rattle.frames.specs.Tables.{Tables, tables}
 use Rattle.rules.specs.declared.Call.{Call}
 use Rattle.rules.specs.declared.Call.the-variants as Call
+use Rattle.rules.specs.declared.Counters.{Counters}
 use Rattle.rules.specs.declared.Record.{Record}
 use Rattle.rules.specs.Record.{frameAt}
 use Rattle.rules.specs.Outcomes.{Outcome}
 use Rattle.rules.specs.PageCalls.{pageAt}
-use Rattle.rules.specs.Calls.{perform}
+use Rattle.rules.specs.Counters.{counted}
+use Rattle.rules.specs.Calls.{perform, bytesAfter}
 use Rattle.rules.specs.ledger.Ledger.{Ledger, emptyLedger}
 use Rattle.rules.specs.ledger.Roles.{roleOf, fed}
 
@@ -22,20 +25,20 @@ pub data Source : Type 0 where
   own : Source
   another : List ℕ → Source
 
--- one of a list: a call, the text beside it, and what it is lent as each table, each by itself
+-- one of a list: a call, the bytes beside it, and what it is lent as each table, each by itself
 pub record Item : Type 0 where
   pub call : Call
-  pub text : List ℕ
+  pub bytes : List ℕ
   pub marks : Source
   pub words : Source
   pub bitmap : Source
   pub owners : Source
 
 abbrev pub itemWith : Call → List ℕ → Source → Source → Source → Source → Item
-itemWith c text marks words bitmap owners =
-    record { call = c; text = text; marks = marks; words = words; bitmap = bitmap; owners = owners }
+itemWith c bytes marks words bitmap owners =
+    record { call = c; bytes = bytes; marks = marks; words = words; bitmap = bitmap; owners = owners }
 
--- a call with no text
+-- a call with no bytes beside it
 abbrev pub item : Call → Source → Source → Source → Source → Item
 item c = itemWith c []
 
@@ -43,9 +46,10 @@ item c = itemWith c []
 abbrev pub onOwn : Call → Item
 onOwn c = item c own own own own
 
--- where a list stands: the record that the last call returned, the boot's tables as last left, and the ledger
+-- where a list stands: the record that the last call returned, with its counters, the boot's tables as last left, and the ledger
 pub record State : Type 0 where
   pub machine : Record
+  pub counters : Counters
   pub own : Tables
   pub ledger : Ledger
 
@@ -69,7 +73,7 @@ lentTo x was =
     (lentAs (x .owners) (was .owners))
 
 abbrev pub outcomeIn : State → Item → Outcome
-outcomeIn s x = perform (x .call) (x .text) (s .machine) (lentTo x (s .own))
+outcomeIn s x = perform (x .call) (x .bytes) (s .machine) (lentTo x (s .own))
 
 -- the boot's tables after an item
 abbrev pub ownAfter : Item → Tables → Tables → Tables
@@ -82,6 +86,7 @@ next s x =
     let o = outcomeIn s x in
     record {
       machine = o .machine;
+      counters = counted (x .call) (o .answer .refusal) (s .counters);
       own = ownAfter x (s .own) (o .left);
       ledger = fed (x .call) (isRefused o) (o .answer .first) (s .ledger);
     }
@@ -90,9 +95,9 @@ unfoldable pub after : State → List Item → State
 after s [] = s
 after s (x ∷ xs) = after (next s x) xs
 
--- right after a boot
-abbrev pub startOf : Outcome → State
-startOf o = record { machine = o .machine; own = o .left; ledger = emptyLedger }
+-- right after a boot, from what it left and the counters then
+abbrev pub startOf : Outcome → Counters → State
+startOf o c = record { machine = o .machine; counters = c; own = o .left; ledger = emptyLedger }
 
 -- ---- The lists that document 01 admits
 
@@ -123,30 +128,65 @@ lastPinFrame name before s (x ∷ xs) =
     (if roleOf (x .call) .pins name && not (isRefused (outcomeIn s x)) then frameOfPage (next s x) name else before)
     (next s x) xs
 
+-- ---- The grants of a list
+
+-- how many grants of a list are answered with a number that passes
+unfoldable pub grantsAnswered : (ℕ → Bool) → State → List Item → ℕ
+grantsAnswered test s [] = 0
+grantsAnswered test s (x ∷ xs) =
+    (if roleOf (x .call) .isGrant && test (outcomeIn s x .answer .refusal) then 1 else 0) + grantsAnswered test (next s x) xs
+
+-- 0 is an accepted call; a refused one counts but for the wrong shape, 1
+abbrev pub isDone : ℕ → Bool
+isDone number = eqb number 0
+
+abbrev pub isCountedRefusal : ℕ → Bool
+isCountedRefusal number = not (eqb number 0) && not (eqb number 1)
+
 -- ---- Two runs
 
--- two calls are the same, or store other words to one name of the chosen set
-pub data SameCall (chosen : ℕ → Bool) : Call → Call → Type 0 where
-  same : (c : Call) → SameCall chosen c c
-  otherWord : (name word word′ : ℕ) → chosen name ≡ true → SameCall chosen (Call.Store name word) (Call.Store name word′)
+-- two calls with the bytes beside them are the same, or store other words to one name of the chosen set, or report to buffers of the same length
+pub data SameCall (chosen : ℕ → Bool) : Call → List ℕ → Call → List ℕ → Type 0 where
+  same : (c : Call) (bytes : List ℕ) → SameCall chosen c bytes c bytes
+  otherWord :
+      (name word word′ : ℕ) (bytes : List ℕ) → chosen name ≡ true → SameCall chosen (Call.Store name word) bytes (Call.Store name word′) bytes
+  otherBuffer : (bytes bytes′ : List ℕ) → length bytes′ ≡ length bytes → SameCall chosen Call.Report bytes Call.Report bytes′
 
--- two lists of such calls, with the same texts beside them, that are lent the same: the own table of each run, or one other in both
+-- two lists of such calls that are lent the same: the own table of each run, or one other in both
 pub data SameList (chosen : ℕ → Bool) : List Item → List Item → Type 0 where
   none : SameList chosen [] []
   more :
-      {c d : Call} {text : List ℕ} {marks words bitmap owners : Source} {xs ys : List Item} →
-      SameCall chosen c d →
+      {c d : Call} {bytes bytes′ : List ℕ} {marks words bitmap owners : Source} {xs ys : List Item} →
+      SameCall chosen c bytes d bytes′ →
       SameList chosen xs ys →
-      SameList chosen (itemWith c text marks words bitmap owners ∷ xs) (itemWith d text marks words bitmap owners ∷ ys)
+      SameList chosen (itemWith c bytes marks words bitmap owners ∷ xs) (itemWith d bytes′ marks words bitmap owners ∷ ys)
 
 -- an answer without the word that a read of a chosen name gives
 abbrev pub withoutWord : Answer → Answer
 withoutWord a = record { refusal = a .refusal; first = a .first; second = 0 }
 
-abbrev pub seen : (ℕ → Bool) → Call → Answer → Answer
-seen chosen call a = if roleOf call .reads chosen then withoutWord a else a
+abbrev pub seenAnswer : (ℕ → Bool) → Call → Answer → Answer
+seenAnswer chosen call a = if roleOf call .reads chosen then withoutWord a else a
 
--- the answers of a list, but for the words read from the chosen names
-unfoldable pub seenAnswers : (ℕ → Bool) → State → List Item → List Answer
-seenAnswers chosen s [] = []
-seenAnswers chosen s (x ∷ xs) = seen chosen (x .call) (outcomeIn s x .answer) ∷ seenAnswers chosen (next s x) xs
+-- what is seen of a call: its answer, the counters after it, and the bytes that an accepted report wrote, as many as it answers
+pub record Seen : Type 0 where
+  pub answer : Answer
+  pub counters : Counters
+  pub report : List ℕ
+
+-- a refusal answers 0, and so has no bytes
+abbrev pub reportBy : Call → List ℕ → Record → Tables → List ℕ
+reportBy call bytes m t = if roleOf call .isReport then take (perform call bytes m t .answer .first) (bytesAfter call bytes m t) else []
+
+abbrev pub seenOf : (ℕ → Bool) → State → Item → Seen
+seenOf chosen s x =
+    record {
+      answer = seenAnswer chosen (x .call) (outcomeIn s x .answer);
+      counters = counted (x .call) (outcomeIn s x .answer .refusal) (s .counters);
+      report = reportBy (x .call) (x .bytes) (s .machine) (lentTo x (s .own));
+    }
+
+-- what is seen of a list, but for the words read from the chosen names
+unfoldable pub seen : (ℕ → Bool) → State → List Item → List Seen
+seen chosen s [] = []
+seen chosen s (x ∷ xs) = seenOf chosen s x ∷ seen chosen (next s x) xs

@@ -1,6 +1,6 @@
--- Document 01, "The ledger of demand 3": what each call is to the ledger, and for how many frames
--- it is lent tables, in one table. The ledger is fed each call with its arguments,
--- whether it was refused, and the frame a grant answers, and nothing else.
+-- Document 01, "The ledger of demand 3": what each call is to the ledger, for how many frames it is lent tables, and whether it is a grant, which is
+-- counted, a boot, or a report, which writes, in one table. The ledger is fed each call with its arguments, whether it was refused, and the
+-- frame a grant answers, and nothing else.
 use Prim.Native.Nat.{ℕ}
 use mathlib.Core.Bool.{Bool, true, false}
 use lib.Dec.{eqb}
@@ -14,6 +14,8 @@ pub record Role : Type 0 where
   -- what an accepted one changes; the number is the frame that a grant answers, and no other call's entry looks at it
   pub entry : ℕ → Ledger → Ledger
   pub isBoot : Bool
+  pub isGrant : Bool
+  pub isReport : Bool
   -- how many frames its tables are for, on a machine of so many: a boot's own, and for any other call the machine's
   pub frames : ℕ → ℕ
   -- it pins the page of that name
@@ -21,21 +23,33 @@ pub record Role : Type 0 where
   -- its answer has the word of a page whose name is in the set
   pub reads : (ℕ → Bool) → Bool
 
+-- a call that is no boot
+abbrev role : (ℕ → Ledger → Ledger) → Bool → Bool → (ℕ → Bool) → ((ℕ → Bool) → Bool) → Role
+role entry isGrant isReport pins reads =
+    record { entry = entry; isBoot = false; isGrant = isGrant; isReport = isReport; frames = λ n. n; pins = pins; reads = reads }
+
 abbrev pub changes : (ℕ → Ledger → Ledger) → Role
-changes entry = record { entry = entry; isBoot = false; frames = λ n. n; pins = λ _. false; reads = λ _. false }
+changes entry = role entry false false (λ _. false) (λ _. false)
+
+abbrev pub granting : (ℕ → Ledger → Ledger) → Role
+granting entry = role entry true false (λ _. false) (λ _. false)
 
 abbrev pub pinning : ℕ → (ℕ → Ledger → Ledger) → Role
-pinning name entry = record { entry = entry; isBoot = false; frames = λ n. n; pins = λ pinned. eqb pinned name; reads = λ _. false }
+pinning name entry = role entry false false (λ pinned. eqb pinned name) (λ _. false)
 
--- these three change nothing
+-- these four change nothing
 abbrev pub keeps : Role
 keeps = changes (λ _ l. l)
 
+abbrev pub reporting : Role
+reporting = role (λ _ l. l) false true (λ _. false) (λ _. false)
+
 abbrev pub reading : ℕ → Role
-reading name = record { entry = λ _ l. l; isBoot = false; frames = λ n. n; pins = λ _. false; reads = λ names. names name }
+reading name = role (λ _ l. l) false false (λ _. false) (λ names. names name)
 
 abbrev pub booting : ℕ → Role
-booting frames = record { entry = λ _ l. l; isBoot = true; frames = λ _. frames; pins = λ _. false; reads = λ _. false }
+booting frames =
+    record { entry = λ _ l. l; isBoot = true; isGrant = false; isReport = false; frames = λ _. frames; pins = λ _. false; reads = λ _. false }
 
 abbrev pub roleOf : Call → Role
 -- put: the name is live and not pinned, its word 0
@@ -50,13 +64,14 @@ roleOf (Call.Unpin name) = changes (λ _ l. withPage l name (l .live name) false
 roleOf (Call.Store name word) = changes (λ _ l. withPage l name (l .live name) (l .pinned name) word)
 roleOf (Call.Read name) = reading name
 -- grant: frame and count are a live grant, of the device; release: the live grant with that frame and count ends
-roleOf (Call.Grant area count alignOrder device) = changes (λ answered l. withGrant l (grantOf (frame answered) count) device)
+roleOf (Call.Grant area count alignOrder device) = granting (λ answered l. withGrant l (grantOf (frame answered) count) device)
 roleOf (Call.Release area first count device) = changes (λ _ l. endGrant l (grantOf first count))
 -- device store: the word is that frame's
 roleOf (Call.DeviceStore at word device) = changes (λ _ l. withDeviceWord l at word)
 roleOf (Call.DeviceRead at device) = keeps
 roleOf (Call.Declare request) = keeps
 roleOf (Call.Boot base frames blockOrder) = booting frames
+roleOf Call.Report = reporting
 
 -- the ledger is fed a call, whether it was refused, and the frame it answers; refused calls change nothing
 abbrev pub fed : Call → Bool → ℕ → Ledger → Ledger

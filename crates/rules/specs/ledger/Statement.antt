@@ -1,26 +1,29 @@
--- Demand 3, as one theorem: what holds after every list of page calls, device calls, declares and refused boots that follows one accepted boot.
+-- Demand 3, as one theorem: what holds after every list of page calls, device calls, declares, reports and refused boots that follows one accepted boot.
 -- It speaks of the calls by `perform`, the contracts' own definitions. The ledger is in Ledger.antt, and what each call is to it in
--- Roles.antt; the lists, what they leave and which are admitted are in Lists.antt. The theorem, at the end, has six parts, numbered here.
+-- Roles.antt; the lists, what they leave and which are admitted are in Lists.antt. The theorem, at the end, has seven parts, numbered here.
 use Prim.Native.Nat.{ℕ, _+_, _≤_, _<_}
 use mathlib.Core.Bool.{Bool, true, false, not, _&&_}
-use mathlib.Core.List.{List, []}
+use mathlib.Core.List.{List, [], _++_}
 use mathlib.Core.Logic.{_≢_}
 use mathlib.Core.Path.{_≡_}
 use lib.Dec.{ltb, eqb}
-use lib.ListN.{getD}
+use lib.ListN.{length, getD}
 use Rattle.search.specs.Search.{howMany}
 use Rattle.frames.specs.declared.Frame.{Frame}
 use Rattle.frames.specs.Units.{frame, place}
 use Rattle.frames.specs.Marks.{kindOf, markOf, isPageOf, isGranted, pinned}
 use Rattle.frames.specs.Tables.{Tables, markAt, wordAt}
+use Rattle.rules.specs.declared.Call.{Call}
 use Rattle.rules.specs.declared.Call.the-variants as Call
+use Rattle.rules.specs.declared.Counters.{Counters}
 use Rattle.rules.specs.declared.Record.{Record}
 use Rattle.rules.specs.Record.{placeOf, frameAt, endFrame}
 use Rattle.rules.specs.Outcomes.{Outcome}
+use Rattle.rules.specs.Counters.{counted, since}
 use Rattle.rules.specs.Calls.{perform}
 use Rattle.rules.specs.promises.Changes.{SameLengths}
 use Rattle.rules.specs.ledger.Ledger.{grantsAt}
-use Rattle.rules.specs.ledger.Lists.{Item, State, isRefused, startOf, after, admitted, frameOfPage, lastPinFrame, SameList, seenAnswers}
+use Rattle.rules.specs.ledger.Lists.{Item, State, isRefused, startOf, after, admitted, frameOfPage, lastPinFrame, grantsAnswered, isDone, isCountedRefusal, SameList, seen}
 
 -- a read is made with the record and the tables that the list left
 abbrev pub pageRead : State → ℕ → Outcome
@@ -110,25 +113,44 @@ pub record OwnersRight (s : State) : Type 0 where
       let o = frameRelease s area f count device in
       (isRefused o ≡ true) × (o .machine ≡ s .machine) × (o .left ≡ s .own)
 
--- (6) a run of the same calls agrees with this one in every answer, but for the words that reads of the chosen names give
-pub record RunsAgree (start start′ : State) (items : List Item) : Type 0 where
-  pub agree :
-      (chosen : ℕ → Bool) (items′ : List Item) → SameList chosen items items′ → seenAnswers chosen start items ≡ seenAnswers chosen start′ items′
+-- (6) between two readings of a counter that fewer than 2^32 calls of the list lie between, their difference is the number of the grants that were
+-- accepted among these calls, and of those that were refused, and not by the shape
+pub record CountersRight (start : State) (items : List Item) : Type 0 where
+  pub granted :
+      (before between : List Item) →
+      items ≡ before ++ between →
+      length between < 4294967296 →
+      since (after start items .counters .granted) (after start before .counters .granted) ≡ grantsAnswered isDone (after start before) between
+  pub refused :
+      (before between : List Item) →
+      items ≡ before ++ between →
+      length between < 4294967296 →
+      since (after start items .counters .refused) (after start before .counters .refused) ≡
+      grantsAnswered isCountedRefusal (after start before) between
 
--- a boot with its numbers and its text, and the record and the tables that it is given
+-- (7) a run of the same calls agrees with this one in every answer, but for the words that reads of the chosen names give, in the counters and in
+-- the bytes of every report
+pub record RunsAgree (start start′ : State) (items : List Item) : Type 0 where
+  pub agree : (chosen : ℕ → Bool) (items′ : List Item) → SameList chosen items items′ → seen chosen start items ≡ seen chosen start′ items′
+
+-- a boot with its numbers and its text, and the record, with its counters, and the tables that it is given
 pub record Boot : Type 0 where
   pub base : ℕ
   pub frames : ℕ
   pub blockOrder : ℕ
   pub text : List ℕ
   pub given : Record
+  pub counters : Counters
   pub lent : Tables
 
+abbrev pub callOfBoot : Boot → Call
+callOfBoot b = Call.Boot (frame (b .base)) (b .frames) (b .blockOrder)
+
 abbrev pub outcomeOfBoot : Boot → Outcome
-outcomeOfBoot b = perform (Call.Boot (frame (b .base)) (b .frames) (b .blockOrder)) (b .text) (b .given) (b .lent)
+outcomeOfBoot b = perform (callOfBoot b) (b .text) (b .given) (b .lent)
 
 abbrev pub startOfBoot : Boot → State
-startOfBoot b = startOf (outcomeOfBoot b)
+startOfBoot b = startOf (outcomeOfBoot b) (counted (callOfBoot b) (outcomeOfBoot b .answer .refusal) (b .counters))
 
 -- the same boot, given another record and lent other tables of the same lengths
 pub record SameBoot (b c : Boot) : Type 0 where
@@ -145,9 +167,10 @@ pub record Demand3 (b : Boot) (items : List Item) : Type 0 where
   pub grants : GrantsRight (after (startOfBoot b) items)
   pub deviceWords : DeviceWordsRight (after (startOfBoot b) items)
   pub owners : OwnersRight (after (startOfBoot b) items)
+  pub counters : CountersRight (startOfBoot b) items
   pub runs : (c : Boot) → SameBoot b c → RunsAgree (startOfBoot b) (startOfBoot c) items
 
 -- the theorem: every accepted boot, whatever its numbers, text, record and tables, and every list after it that document 01 admits. The second
--- run of (6) needs no such hypotheses of its own
+-- run of (7) needs no such hypotheses of its own
 abbrev pub Theorem : Type 0
 Theorem = (b : Boot) (items : List Item) → isRefused (outcomeOfBoot b) ≡ false → admitted (startOfBoot b) items ≡ true → Demand3 b items

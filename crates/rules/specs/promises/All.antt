@@ -8,9 +8,10 @@ use Rattle.rules.specs.promises.Moves.{AcceptedGrant}
 use Rattle.rules.specs.promises.Numbers.{RefusedExactly, RefusalHasZeros, BootAnswersPlace}
 use Rattle.rules.specs.promises.Pages.{AcceptedPutMovable, AcceptedPutFixed, LiveIfStands, AcceptedDrop, AcceptedPin, AcceptedUnpin, AcceptedStore, AcceptedRead, StoreThenRead, PinnedPagesStay}
 use Rattle.rules.specs.promises.Releases.{AcceptedRelease, FreedRoomIsUsed}
+use Rattle.rules.specs.promises.Reports.{ReportFigures, ReportLines, AcceptedReport, ReportWithoutWords}
 use Rattle.rules.specs.promises.Rounded.{AmountsRound, LimitRounds}
 use Rattle.rules.specs.promises.Shapes.{ShapeIsRight}
-use Rattle.rules.specs.promises.Unchanged.{RefusalChangesNothing, TextIsBoots, OwnersStay}
+use Rattle.rules.specs.promises.Unchanged.{RefusalChangesNothing, AcceptedCounts, BytesBeside, OwnersStay}
 
 pub record AllPromises : Type 0 where
   pub shape : ShapeIsRight
@@ -20,7 +21,8 @@ pub record AllPromises : Type 0 where
   pub refusal-zeros : RefusalHasZeros
   pub boot-place : BootAnswersPlace
   pub refusal : RefusalChangesNothing
-  pub text : TextIsBoots
+  pub counts : AcceptedCounts
+  pub bytes : BytesBeside
   pub owners : OwnersStay
   pub put-movable : AcceptedPutMovable
   pub put-fixed : AcceptedPutFixed
@@ -47,3 +49,7 @@ pub record AllPromises : Type 0 where
   pub shape-kept : DeclareKeepsShape
   pub boot-lengths : BootLooksAtLengths
   pub boot : AcceptedBoot
+  pub figures : ReportFigures
+  pub lines : ReportLines
+  pub report : AcceptedReport
+  pub report-words : ReportWithoutWords

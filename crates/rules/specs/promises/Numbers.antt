@@ -19,6 +19,7 @@ use Rattle.rules.specs.Record.{bareRecord, areaAt}
 use Rattle.rules.specs.Declare.{sizeFor}
 use Rattle.rules.specs.Declare as Declare
 use Rattle.rules.specs.Boot.{zeroTables}
+use Rattle.rules.specs.Report.{reportOf}
 use Rattle.rules.specs.Calls.{perform}
 use Rattle.rules.specs.promises.Boots.{regionRequest}
 use Rattle.rules.specs.promises.Changes.{kindAt, fieldAt}
@@ -111,6 +112,10 @@ abbrev pub ShortBitmap : Record → Request → Tables → Type 0
 ShortBitmap m r t =
     length (t .bitmap) < firstWord (m .areas) (m .memory .declared) + (sizeFor m r / 4096 / 2 ^ r .«order_per_bit» + 63) / 64
 
+-- the buffer has fewer bytes than the report
+abbrev pub ShortBuffer : List ℕ → Record → Tables → Type 0
+ShortBuffer buffer m t = length buffer < length (reportOf m t)
+
 -- ---- The numbers of each call, in the order written
 
 abbrev pub declareRefusal : Request → Record → Tables → ℕ → Type 0
@@ -146,78 +151,81 @@ BootAnswers base frames blockOrder text t n at =
     ((rs : List Region) × (end : ℕ) × (regions text ≡ gives rs end) × RegionsAnswer rs 0 (bareRecord base frames blockOrder) (zeroTables t) n at)))
 
 abbrev pub refusalOf : Call → List ℕ → Record → Tables → ℕ → Type 0
-refusalOf (Call.PutMovable name) text m t =
+refusalOf (Call.PutMovable name) bytes m t =
     WrongShape m t answers 1 otherwise
     BadName name answers 2 otherwise
     Live m t name answers 4 otherwise
     NoneFree m t answers 6 otherwise accepted
-refusalOf (Call.PutFixed name) text m t =
+refusalOf (Call.PutFixed name) bytes m t =
     WrongShape m t answers 1 otherwise
     BadName name answers 2 otherwise
     Live m t name answers 4 otherwise
     NoneFreeOrdinary m t answers 6 otherwise accepted
-refusalOf (Call.Drop name) text m t =
+refusalOf (Call.Drop name) bytes m t =
     WrongShape m t answers 1 otherwise
     BadName name answers 2 otherwise
     NotLive m t name answers 3 otherwise
     PageIs 2 m t name answers 5 otherwise accepted
-refusalOf (Call.Pin name) text m t =
+refusalOf (Call.Pin name) bytes m t =
     WrongShape m t answers 1 otherwise
     BadName name answers 2 otherwise
     NotLive m t name answers 3 otherwise
     PageIsNot 1 m t name answers 5 otherwise accepted
-refusalOf (Call.Unpin name) text m t =
+refusalOf (Call.Unpin name) bytes m t =
     WrongShape m t answers 1 otherwise
     BadName name answers 2 otherwise
     NotLive m t name answers 3 otherwise
     PageIsNot 2 m t name answers 5 otherwise accepted
-refusalOf (Call.Store name word) text m t =
+refusalOf (Call.Store name word) bytes m t =
     WrongShape m t answers 1 otherwise
     BadName name answers 2 otherwise
     NotLive m t name answers 3 otherwise
     PageIs 2 m t name answers 5 otherwise accepted
-refusalOf (Call.Read name) text m t =
+refusalOf (Call.Read name) bytes m t =
     WrongShape m t answers 1 otherwise
     BadName name answers 2 otherwise
     NotLive m t name answers 3 otherwise accepted
-refusalOf (Call.Grant i count alignOrder device) text m t =
+refusalOf (Call.Grant i count alignOrder device) bytes m t =
     WrongShape m t answers 1 otherwise
     BadGrant m i count alignOrder device answers 2 otherwise
     NoRun m t i count alignOrder answers 7 otherwise
     NoTargets m t i count alignOrder answers 8 otherwise accepted
-refusalOf (Call.Release i f count device) text m t =
+refusalOf (Call.Release i f count device) bytes m t =
     WrongShape m t answers 1 otherwise
     BadRelease m i (f .0) count device answers 2 otherwise
     NoGrant m t i (f .0) answers 3 otherwise
     NotOwner m t (f .0) device answers 15 otherwise
     Disagrees m t (f .0) count answers 9 otherwise accepted
-refusalOf (Call.DeviceStore f word device) text m t =
+refusalOf (Call.DeviceStore f word device) bytes m t =
     WrongShape m t answers 1 otherwise
     BadFrame m (f .0) device answers 2 otherwise
     NotGranted m t (f .0) answers 3 otherwise
     NotOwner m t (f .0) device answers 15 otherwise accepted
-refusalOf (Call.DeviceRead f device) text m t =
+refusalOf (Call.DeviceRead f device) bytes m t =
     WrongShape m t answers 1 otherwise
     BadFrame m (f .0) device answers 2 otherwise
     NotGranted m t (f .0) answers 3 otherwise
     NotOwner m t (f .0) device answers 15 otherwise accepted
-refusalOf (Call.Declare r) text m t = declareRefusal r m t
+refusalOf (Call.Declare r) bytes m t = declareRefusal r m t
 refusalOf (Call.Boot base frames blockOrder) text m t = λ n. (at : ℕ) × BootAnswers (base .0) frames blockOrder text t n at
+refusalOf Call.Report buffer m t =
+    WrongShape m t answers 1 otherwise
+    ShortBuffer buffer m t answers 16 otherwise accepted
 
 -- ---- The promises
 
 -- a call answers n exactly if its list says n; 0, done, among them
 abbrev pub RefusedExactly : Type 0
 RefusedExactly =
-    (call : Call) (text : List ℕ) (m : Record) (t : Tables) (n : ℕ) →
-    (perform call text m t .answer .refusal ≡ n) ↔ refusalOf call text m t n
+    (call : Call) (bytes : List ℕ) (m : Record) (t : Tables) (n : ℕ) →
+    (perform call bytes m t .answer .refusal ≡ n) ↔ refusalOf call bytes m t n
 
 -- every refusal answers its number and two zeros
 abbrev pub RefusalHasZeros : Type 0
 RefusalHasZeros =
-    (call : Call) (text : List ℕ) (m : Record) (t : Tables) →
+    (call : Call) (bytes : List ℕ) (m : Record) (t : Tables) →
     ((base : Frame) (frames blockOrder : ℕ) → call ≢ Call.Boot base frames blockOrder) →
-    let a = perform call text m t .answer in
+    let a = perform call bytes m t .answer in
     a .refusal ≢ 0 → (a .first ≡ 0) × (a .second ≡ 0)
 
 -- for boot a place and a zero

@@ -17,7 +17,7 @@ slice-aggregate-put-three : tie.Need-slice-aggregate-put-three
 slice-aggregate-put-three c = search needs
 
 put-three-requires : tie.Need-put-three-requires
-put-three-requires c κs = omega (arith, c .before .before .before .before .before .before .before .before .before .before .before .before .before .before .before .before .before .before .before .before .before .before .before .before .before .before .before .pre)
+put-three-requires c κs = omega (arith, c .before .before .before .before .before .before .before .before .before .before .before .before .before .before .before .before .before .before .before .before .before .before .before .before .before .before .before .before .pre)
 
 slice-aggregate-put-areas : tie.Need-slice-aggregate-put-areas
 slice-aggregate-put-areas c = search needs
@@ -48,6 +48,7 @@ put-boot-spec =
     tie.close
     (tie.spec
     fresh-requires
+    (λ c κs. search needs)
     slice-aggregate-boot
     boot-requires
     slice-aggregate-put-three

@@ -7,6 +7,7 @@ use denote.Ref.{now}
 use Rattle.frames.specs.Tables.{Tables, tables}
 use Rattle.rules.specs.declared.Record.{Record}
 use Rattle.rules.specs.Does.{recordWith}
+use Rattle.machine.proofs.Counted.{shape-uncounted}
 use Rattle.playback.proofs.Lending.{few-marks, few-words, few-owners, answered}
 use Rattle.playback.proofs.calls.answer.Statement.{statement}
 use Rattle.playback.proofs.calls.answer.Tie as tie
@@ -28,7 +29,7 @@ returns : tie.Need-returns
 returns c =
     let start = c .before .before .before .before .before .before .before .before in
     let frames = c .before .before .frames-for .ensures in
-    rw (c .wrong-shape .ensures) (sym (few-marks (start .args .call) (record-of start) (lent-by start) (omega arith)))
+    rw (c .wrong-shape .ensures) (sym (few-marks (start .args .call) (record-of start) (lent-by start) (omega arith)), sym (shape-uncounted (start .args .call) (start .args .machine .counters)))
 
 wrong-shape-requires-2 : tie.Need-wrong-shape-requires-2
 wrong-shape-requires-2 c κs = search needs
@@ -37,7 +38,7 @@ returns-2 : tie.Need-returns-2
 returns-2 c =
     let start = c .before .before .before .before .before .before .before .before .before in
     let frames = c .before .before .before .frames-for .ensures in
-    rw (c .wrong-shape2 .ensures) (sym (few-words (start .args .call) (record-of start) (lent-by start) (omega arith)))
+    rw (c .wrong-shape2 .ensures) (sym (few-words (start .args .call) (record-of start) (lent-by start) (omega arith)), sym (shape-uncounted (start .args .call) (start .args .machine .counters)))
 
 wrong-shape-requires-3 : tie.Need-wrong-shape-requires-3
 wrong-shape-requires-3 c κs = search needs
@@ -46,7 +47,7 @@ returns-3 : tie.Need-returns-3
 returns-3 c =
     let start = c .before .before .before .before .before .before .before .before .before .before in
     let frames = c .before .before .before .before .frames-for .ensures in
-    rw (c .wrong-shape3 .ensures) (sym (few-owners (start .args .call) (record-of start) (lent-by start) (omega arith)))
+    rw (c .wrong-shape3 .ensures) (sym (few-owners (start .args .call) (record-of start) (lent-by start) (omega arith)), sym (shape-uncounted (start .args .call) (start .args .machine .counters)))
 
 sub-perform : tie.Need-sub-perform
 sub-perform c = search needs
@@ -98,13 +99,15 @@ same-length-5 c = search needs
 
 returns-4 : tie.Need-returns-4
 returns-4 c =
-    let start = c .before .before .before .before .before .before .before .before .before .before .before .before .before .before .before .before .before .before .before .before .before .before .before .before .before .before in
-    let frames = c .before .before .before .before .before .before .before .before .before .before .before .before .before .before .before .before .before .before .before .before .frames-for in
+    let start = c .before .before .before .before .before .before .before .before .before .before .before .before .before .before .before .before .before .before .before .before .before .before .before .before .before .before .before .before in
+    let frames = c .before .before .before .before .before .before .before .before .before .before .before .before .before .before .before .before .before .before .before .before .before .before .frames-for in
     let same = frames .ensures in
-    let made = c .before .before .before .before .before .before .before .before .before .before .perform in
-    answered (start .args .call) (record-of start) (lent-by start) (frames .result - 0)
-    (recordWith (made .result .machine .memory) (made .last .1 .0)) (made .result .answer) (made .last .1 .1 .0) (made .last .1 .1 .1 .0) (made .last .1 .1 .1 .1 .0) (made .last .1 .1 .1 .1 .1 .0)
-    (start .pre) (omega arith) (omega (arith, c .before .before .before .before .before .before .before .before .before .before .before .before .before .before .before .before .before .before .before .if1 .left)) (omega (arith, c .before .before .before .before .before .before .before .before .before .before .before .before .before .before .before .before .before .before .if2 .left)) (omega (arith, c .before .before .before .before .before .before .before .before .before .before .before .before .before .before .before .before .before .if3 .left)) (made .ensures)
+    let made = c .before .before .before .before .before .before .before .before .before .before .before .perform in (
+      answered (start .args .call) (record-of start) (lent-by start) (frames .result - 0)
+          (recordWith (made .result .machine .memory) (made .last .1 .0)) (made .result .answer) (made .last .1 .1 .0) (made .last .1 .1 .1 .0) (made .last .1 .1 .1 .1 .0) (made .last .1 .1 .1 .1 .1 .0)
+          (start .pre) (omega arith) (omega (arith, c .before .before .before .before .before .before .before .before .before .before .before .before .before .before .before .before .before .before .before .before .before .if1 .left)) (omega (arith, c .before .before .before .before .before .before .before .before .before .before .before .before .before .before .before .before .before .before .before .before .if2 .left)) (omega (arith, c .before .before .before .before .before .before .before .before .before .before .before .before .before .before .before .before .before .before .before .if3 .left)) (made .ensures .0 .0),
+      made .ensures .0 .1,
+    )
 
 pub answer-spec : {M : Type 1} → statement M
 answer-spec =
@@ -127,6 +130,7 @@ answer-spec =
     part-perform-start-3
     part-perform-end-3
     slice-aggregate-perform
+    (λ c. search needs)
     perform-requires
     same-length
     same-length-2

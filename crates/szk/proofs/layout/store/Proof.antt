@@ -1,7 +1,7 @@
--- `szk::layout::store` meets its contract: its four stores are one after the other. Assumes nothing.
+-- `szk::layout::store` meets its contract: its five stores are one after the other. Assumes nothing.
 use native.Mathlib.Omega.{arith}
 use lib.ListN.{length-set}
-use Rattle.szk.specs.Layout.{memoryNumbers}
+use Rattle.szk.specs.Layout.{ownNumbers}
 use Rattle.szk.proofs.LayoutFacts.{sets-over}
 use borrow.Author.Needs.{needs}
 use Rattle.szk.proofs.layout.store.Statement.{statement}
@@ -19,11 +19,14 @@ slice-write-numbers-3 c = simp length-set (omega arith)
 slice-write-numbers-4 : tie.Need-slice-write-numbers-4
 slice-write-numbers-4 c = simp length-set (omega arith)
 
+slice-write-numbers-5 : tie.Need-slice-write-numbers-5
+slice-write-numbers-5 c = simp length-set (omega arith)
+
 same-length : tie.Need-same-length
 same-length c = search needs
 
 returns : tie.Need-returns
-returns c = let a = c .args in sets-over (memoryNumbers (a .memory)) (a .numbers .now) (omega arith)
+returns c = let a = c .before .before .args in sets-over (ownNumbers (a .memory) (a .counters)) (a .numbers .now) (omega arith)
 
 pub store-spec : {M : Type 1} → statement M
-store-spec = tie.close (tie.spec slice-write-numbers slice-write-numbers-2 slice-write-numbers-3 slice-write-numbers-4 same-length returns)
+store-spec = tie.close (tie.spec slice-write-numbers slice-write-numbers-2 slice-write-numbers-3 slice-write-numbers-4 (λ c. search needs) (λ c. search needs) (λ c. search needs) (λ c. search needs) slice-write-numbers-5 same-length returns)

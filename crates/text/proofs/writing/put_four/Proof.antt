@@ -1,17 +1,16 @@
--- `records::lines::put_line` meets its contract: the four ended numbers are appended one after the other. Assumes nothing.
+-- `text::writing::put_four` meets its contract: the four ended numbers are appended one after the other. Assumes nothing.
 use borrow.Author.Needs.{needs}
 use Prim.Native.Nat.{ℕ, _+_, _≤_}
 use native.Mathlib.Omega.{arith}
 use mathlib.Core.List.{_++_}
 use lib.ListN.{length, length-append}
 use denote.Ref.{now}
-use Rattle.text.specs.Writing.{ended}
+use Rattle.text.specs.Writing.{ended, fourNumbers}
 use Rattle.text.proofs.Buffer.{room-yes, room-no, not-appended, appended-then}
 use Rattle.text.proofs.Decimal.{counted-digits}
-use Rattle.records.specs.Lines.{lineOf}
-use Rattle.records.proofs.Texts.{line-length}
-use Rattle.records.proofs.lines.put_line.Statement.{statement}
-use Rattle.records.proofs.lines.put_line.Tie as tie
+use Rattle.text.proofs.Texts.{four-length}
+use Rattle.text.proofs.writing.put_four.Statement.{statement}
+use Rattle.text.proofs.writing.put_four.Tie as tie
 
 digit-count-requires : tie.Need-digit-count-requires
 digit-count-requires c κs = search needs
@@ -50,10 +49,10 @@ size c =
 returns : tie.Need-returns
 returns c =
     let a = c .before .before .before .before .before .before .before .args in
-    not-appended (now (a .out)) (a .at) (lineOf (a .step) (a .refusal) (a .first) (a .second))
+    not-appended (now (a .out)) (a .at) (fourNumbers (a .a) (a .b) (a .c) (a .d))
     (omega (
       arith,
-      line-length (a .step) (a .refusal) (a .first) (a .second),
+      four-length (a .a) (a .b) (a .c) (a .d),
       c .before .before .before .before .before .digit-count .ensures .all,
       c .before .before .before .before .digit-count2 .ensures .all,
       c .before .before .before .digit-count3 .ensures .all,
@@ -80,13 +79,13 @@ same-length c = search needs
 fits :
     (c : tie.Else1)
     → c .before .before .before .before .before .before .before .args .at
-    + length (lineOf (c .before .before .before .before .before .before .before .args .step) (c .before .before .before .before .before .before .before .args .refusal) (c .before .before .before .before .before .before .before .args .first) (c .before .before .before .before .before .before .before .args .second))
+    + length (fourNumbers (c .before .before .before .before .before .before .before .args .a) (c .before .before .before .before .before .before .before .args .b) (c .before .before .before .before .before .before .before .args .c) (c .before .before .before .before .before .before .before .args .d))
     ≤ length (now (c .before .before .before .before .before .before .before .args .out))
 fits c =
     let a = c .before .before .before .before .before .before .before .args in
     omega (
       arith,
-      line-length (a .step) (a .refusal) (a .first) (a .second),
+      four-length (a .a) (a .b) (a .c) (a .d),
       c .before .before .before .before .before .digit-count .ensures .all,
       c .before .before .before .before .digit-count2 .ensures .all,
       c .before .before .before .digit-count3 .ensures .all,
@@ -95,7 +94,7 @@ fits c =
     )
 
 returns-2 : tie.Need-returns-2
-unfolding lineOf
+unfolding fourNumbers
 returns-2 c =
     let room = c .before .before .before .before .before .before .before .before .before .before .before .before .before .before .before .before in
     let a = room .before .before .before .before .before .before .before .args in
@@ -104,23 +103,23 @@ returns-2 c =
     let d2 = room .before .before .before .before .digit-count2 in
     let d3 = room .before .before .before .digit-count3 in
     let d4 = room .before .before .digit-count4 in
-    let t1 = ended (a .step) 32 in
-    let t2 = ended (a .refusal) 32 in
-    let t3 = ended (a .first) 32 in
-    let t4 = ended (a .second) 10 in
+    let t1 = ended (a .a) 32 in
+    let t2 = ended (a .b) 32 in
+    let t3 = ended (a .c) 32 in
+    let t4 = ended (a .d) 10 in
     let four = fits room in
     let three : a .at + length (t1 ++ t2 ++ t3) ≤ length out = omega (arith, four, length-append (t1 ++ t2 ++ t3) t4) in
     let two : a .at + length (t1 ++ t2) ≤ length out = omega (arith, three, length-append (t1 ++ t2) t3) in
     appended-then out (a .at) (t1 ++ t2 ++ t3) t4 four
     (appended-then out (a .at) (t1 ++ t2) t3 three
     (appended-then out (a .at) t1 t2 two
-    (rw (counted-digits (a .step) (d1 .result) (d1 .ensures)) at (c .before .before .before .before .before .before .before .before .before .before .before .before .before .before .put-digits .ensures))
-    (rw (counted-digits (a .refusal) (d2 .result) (d2 .ensures)) at (c .before .before .before .before .before .before .before .before .before .before .put-digits2 .ensures)))
-    (rw (counted-digits (a .first) (d3 .result) (d3 .ensures)) at (c .before .before .before .before .before .before .put-digits3 .ensures)))
-    (rw (counted-digits (a .second) (d4 .result) (d4 .ensures)) at (c .before .before .put-digits4 .ensures))
+    (rw (counted-digits (a .a) (d1 .result) (d1 .ensures)) at (c .before .before .before .before .before .before .before .before .before .before .before .before .before .before .put-digits .ensures))
+    (rw (counted-digits (a .b) (d2 .result) (d2 .ensures)) at (c .before .before .before .before .before .before .before .before .before .before .put-digits2 .ensures)))
+    (rw (counted-digits (a .c) (d3 .result) (d3 .ensures)) at (c .before .before .before .before .before .before .put-digits3 .ensures)))
+    (rw (counted-digits (a .d) (d4 .result) (d4 .ensures)) at (c .before .before .put-digits4 .ensures))
 
-pub put-line-spec : {M : Type 1} → statement M
-put-line-spec =
+pub put-four-spec : {M : Type 1} → statement M
+put-four-spec =
     tie.close
     (tie.spec
     digit-count-requires
