@@ -273,17 +273,18 @@ void szk_read(uint64_t *record, size_t record_length, uint32_t *marks, size_t ma
  * Grants `count` contiguous frames of an area to a device. A candidate starts on a bit, its physical
  * frame is a multiple of 2^align, its ceil(count / 2^k) bits lie in the area and are clear. It is
  * grantable when each of its count frames is free or movable. The lowest grantable candidate is
- * taken. Its movable pages, ascending, go to the lowest free ordinary frames, ascending, with mark
- * and word. Then the first mark is 8 x count + 4, the others 5, the words 0, the owners the device,
- * the bits set. Frames after the count in the last bit stay usable by movable pages. Answers frame,
- * number of pages moved. Adds one to the counter of granted calls.
+ * taken. Its movable pages, ascending, go to the first targets, with mark and word: the free
+ * ordinary frames, ascending, and then the free frames of the other areas, ascending, never a frame
+ * of this area. Then the first mark is 8 x count + 4, the others 5, the words 0, the owners the
+ * device, the bits set. Frames after the count in the last bit stay usable by movable pages. Answers
+ * frame, number of pages moved. Adds one to the counter of granted calls.
  *
  * A refusal with any number but SZK_WRONG_SHAPE adds one to the counter of refused calls, and
  * changes nothing else.
  *
  * Refused: SZK_WRONG_SHAPE; SZK_OUT_OF_RANGE for an unknown area, count 0, align above 16 or a
  * device not from 1 to 65,535; SZK_NO_RUN if there is no grantable candidate; SZK_NO_TARGET if the
- * lowest one's movable pages outnumber the free ordinary frames (no later candidate is tried).
+ * lowest one's movable pages outnumber the targets (no later candidate is tried).
  */
 void szk_grant(uint64_t *record, size_t record_length, uint32_t *marks, size_t marks_length,
                uint64_t *words, size_t words_length, uint64_t *bitmap, size_t bitmap_length,

@@ -68,7 +68,7 @@ impl Machine {
         let area = area as usize;
         let bit = self.first_run(t, area, count, align).ok_or(refusal::NO_RUN)?;
         let run = self.run_places(area, bit, count);
-        let moved = self.move_out(t, run.clone())?;
+        let moved = self.move_out(t, area, run.clone())?;
         self.write_grant(t, run.clone(), count, device);
         self.write_bits(t, area, bit, count, true);
         Ok((self.frame(run.start), moved))
@@ -109,11 +109,19 @@ impl Machine {
         first..first + count as usize
     }
 
-    /// Moves the run's movable pages to the lowest free ordinary frames and
-    /// answers how many there were; with too few targets nothing changes.
-    fn move_out(&self, t: &mut Tables, run: Range<usize>) -> Result<u64, u64> {
+    /// Places that the pages of an area's run can go to: the free ordinary
+    /// frames, ascending, then the free frames of the other areas, ascending.
+    fn targets<'m>(&'m self, marks: &'m [u32], area: usize) -> impl Iterator<Item = usize> + 'm {
+        let in_others = move |frame: u64| self.used_areas().iter().enumerate().any(|(i, a)| i != area && a.holds(frame));
+        let elsewhere = (0..marks.len()).filter(move |&p| kind_of(marks[p]) == kind::FREE && in_others(self.frame(p)));
+        self.free_ordinary(marks).chain(elsewhere)
+    }
+
+    /// Moves the run's movable pages to the first targets and answers how many
+    /// there were; with too few targets nothing changes.
+    fn move_out(&self, t: &mut Tables, area: usize, run: Range<usize>) -> Result<u64, u64> {
         let from: Vec<usize> = run.filter(|&p| kind_of(t.marks[p]) == kind::MOVABLE).collect();
-        let to: Vec<usize> = self.free_ordinary(t.marks).take(from.len()).collect();
+        let to: Vec<usize> = self.targets(t.marks, area).take(from.len()).collect();
         if to.len() < from.len() {
             return Err(refusal::NO_TARGET);
         }

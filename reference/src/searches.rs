@@ -1,6 +1,6 @@
 //! Days that are all search: grants that search an area of 1,024 frames to its end
-//! and find no run, since pinned pages stand in the way or set bits do; and puts
-//! that pass many areas.
+//! and find no run, since pinned pages stand in the way or set bits do; puts that
+//! pass many areas; and grants whose pages all go to other areas.
 
 use crate::calls::Call;
 use crate::machine::{Answer, PAGE};
@@ -34,6 +34,14 @@ impl Day {
 
     fn grant(&mut self, count: u64, align: u64) -> Answer {
         self.make(Call::Grant { area: 0, count, align, device: DEVICE })
+    }
+
+    /// Grants all frames of an area and releases them; answers how many pages moved.
+    fn take(&mut self, area: u64, count: u64) -> u64 {
+        let granted = self.make(Call::Grant { area, count, align: 0, device: DEVICE });
+        let released = self.make(Call::Release { area, frame: granted.first, count, device: DEVICE });
+        assert_eq!((granted.refusal, released.refusal), (0, 0));
+        granted.second
     }
 
     /// Every grant of so many frames finds no run.
@@ -90,6 +98,38 @@ pub fn past_many_areas(puts: u64) -> Vec<u8> {
     for name in (AREAS + 1..).take(puts as usize) {
         assert_eq!(day.make(Call::PutMovable { name }).first, 2 * AREAS + 1);
         day.make(Call::Drop { name });
+    }
+    day.out
+}
+
+/// An area of 1,000 frames is full of movable pages. It is granted: 88 pages go to
+/// the ordinary frames and 912 to sixty other areas, declared in mixed order. Then
+/// these are granted one by one, and their pages go back; and so on, with no
+/// ordinary frame free from then on.
+pub fn moves_between_areas(times: u64) -> Vec<u8> {
+    const AREAS: u64 = 60;
+    const LENGTH: u64 = 16;
+    const PAGES: u64 = 1_000;
+    const BASE: u64 = 16;
+    let mut day = Day { station: Station::new(), out: Vec::new(), first: 0 };
+    day.make(Call::Boot { base: BASE, frames: FRAMES as u64, order: 0, text: Vec::new() });
+    let mut declare = |frame: u64, count: u64| {
+        let request = Request { base: frame * PAGE, size: count * PAGE, fixed: true, ..Request::default() };
+        assert_eq!(day.make(Call::Declare(request)).first, frame);
+    };
+    declare(BASE, PAGES);
+    (0..AREAS).for_each(|i| declare(BASE + PAGES + LENGTH * (i * 37 % AREAS), LENGTH));
+    let ordinary = FRAMES as u64 - PAGES - AREAS * LENGTH;
+    for name in 1..=ordinary + PAGES {
+        day.make(Call::PutMovable { name });
+    }
+    for name in 1..=ordinary {
+        day.make(Call::Drop { name });
+    }
+    for time in 0..times {
+        assert_eq!(day.take(0, PAGES), if time == 0 { PAGES } else { PAGES - ordinary });
+        let back: u64 = (1..=AREAS).map(|area| day.take(area, LENGTH)).sum();
+        assert_eq!(back, PAGES - ordinary);
     }
     day.out
 }

@@ -227,6 +227,40 @@ fn a_grant_needs_just_enough_targets() {
     assert_eq!((state.marks[10], state.words[10]), (mark_of(60, 1), 10));
 }
 
+/// Four movable pages in the first places of the area 16..24, and fixed ones everywhere else.
+fn four_to_move(mut state: State) -> State {
+    state.marks.fill(mark_of(1, 3));
+    (8..12).for_each(|place| (state.marks[place], state.words[place]) = (mark_of(50 + place as u64, 1), place as u64));
+    state
+}
+
+#[test]
+fn pages_go_to_ordinary_frames_and_then_to_another_area() {
+    let grant = |count| Call::Grant { area: 0, count, align: 0, device: 1 };
+    let mut state = four_to_move(two_areas());
+    // The other frames of their own area are no room.
+    state.marks[12..16].fill(0);
+    assert_eq!(refusal(&state, grant(1)), 8);
+    // A frame of the area of two frames to a bit, whatever the field of its free mark, and another; and an ordinary one above them.
+    (state.marks[25], state.marks[27], state.marks[29]) = (mark_of(9, 0), 0, 0);
+    assert_eq!(refusal(&state, grant(4)), 8);
+    assert_eq!(ask(&mut state, grant(3)), (0, 16, 3));
+    assert_eq!([29, 25, 27].map(|place| (state.marks[place], state.words[place])), [58, 59, 60].map(|name| (mark_of(name, 1), name - 50)));
+    assert_eq!(state.bitmap, vec![0b111, 0, 0]);
+    assert_eq!((state.marks[11], state.marks[12], state.words[25]), (mark_of(61, 1), 0, 9));
+}
+
+#[test]
+fn frames_of_other_areas_are_taken_by_frame_and_not_by_area() {
+    let mut state = four_to_move(two_areas());
+    state.machine.declared = 3;
+    state.machine.areas.swap(0, 1);
+    state.machine.areas[2] = Area { base: 8, count: 4, order: 0 };
+    (state.marks[1], state.marks[24]) = (0, 0);
+    assert_eq!(ask(&mut state, Call::Grant { area: 1, count: 2, align: 0, device: 1 }), (0, 16, 2));
+    assert_eq!((state.marks[1], state.marks[24]), (mark_of(58, 1), mark_of(59, 1)));
+}
+
 #[test]
 fn release_checks() {
     let mut state = two_areas();

@@ -68,9 +68,26 @@ fn call(rng: &mut Rng, state: &State, name: u64) -> Call {
     }
 }
 
-/// Lists of calls on such machines agree; answers how many grants moved pages, and how many pages were moved.
-fn agree(seed: u64, lists: u64, calls: u64, frames: u64, longest: u64) -> (u64, u64) {
-    let (mut grants, mut moved) = (0, 0);
+/// How many free frames of the other areas than this one hold a page now.
+fn taken_elsewhere(area: u64, before: &[u32], state: &State) -> u64 {
+    let m = &state.machine;
+    let others = m.areas[..m.declared as usize].iter().enumerate().filter(|&(i, _)| i as u64 != area);
+    let places = others.flat_map(|(_, a)| a.base - m.base..a.base - m.base + a.count);
+    places.filter(|&p| before[p as usize] == 0 && state.marks[p as usize] != 0).count() as u64
+}
+
+/// What was seen of the grants: how many moved pages, how many pages they moved, how many of these to other areas, and how many found no target.
+#[derive(Debug, Default)]
+struct Seen {
+    grants: u64,
+    moved: u64,
+    elsewhere: u64,
+    no_target: u64,
+}
+
+/// Lists of calls on such machines agree.
+fn agree(seed: u64, lists: u64, calls: u64, frames: u64, longest: u64) -> Seen {
+    let mut seen = Seen::default();
     for list in 0..lists {
         let mut rng = Rng::new(seed + list);
         let free = rng.pick(&[0, 10, 100, 400]);
@@ -78,16 +95,19 @@ fn agree(seed: u64, lists: u64, calls: u64, frames: u64, longest: u64) -> (u64, 
         let mut held = Held::of(&state);
         for step in 0..calls {
             let call = call(&mut rng, &state, frames + 1 + step);
+            let before = state.marks.clone();
             let expected = state.apply(&call);
             let answer = held.make(&call);
             assert!(held.agrees(answer, &state, expected), "list {list}, step {step}: {call:?} on {:?}", state.machine);
-            if matches!(call, Call::Grant { .. }) && expected.refusal == 0 && expected.second > 0 {
-                grants += 1;
-                moved += expected.second;
+            if let Call::Grant { area, .. } = call {
+                seen.grants += u64::from(expected.second > 0);
+                seen.moved += expected.second;
+                seen.elsewhere += taken_elsewhere(area, &before, &state);
+                seen.no_target += u64::from(expected.refusal == 8);
             }
         }
     }
-    (grants, moved)
+    seen
 }
 
 #[test]
@@ -95,9 +115,11 @@ fn pages_move_out_among_many_areas() {
     for (seed, lists, calls, frames, longest) in
         [(1, 300, 40, 150, 1), (1000, 300, 40, 600, 4), (2000, 60, 40, 2048, 15), (3000, 12, 20, 20_000, 100), (4000, 40, 12, 262_144, 3)]
     {
-        let (grants, moved) = agree(seed, lists, calls, frames, longest);
-        println!("{frames} frames: {grants} grants moved {moved} pages");
-        assert!(grants > lists, "few grants moved pages");
-        assert!(longest == 1 || moved > grants, "no grant moved two pages");
+        let seen = agree(seed, lists, calls, frames, longest);
+        println!("{frames} frames: {seen:?}");
+        assert!(seen.grants > lists, "few grants moved pages");
+        assert!(longest == 1 || seen.moved > seen.grants, "no grant moved two pages");
+        assert!(seen.elsewhere > 20 && seen.elsewhere < seen.moved, "few pages went to other areas, or all");
+        assert!(frames > 2048 || seen.no_target > lists / 2, "few grants found no target");
     }
 }

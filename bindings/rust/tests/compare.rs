@@ -4,9 +4,10 @@ mod held;
 
 use held::{numbers, Held};
 use reference::calls::front;
+use reference::machine::{kind, kind_of};
 use reference::sample::{boot_start, call_after_boot, large_boot_start, possible_pairs, run, Rng};
 use reference::{Answer, Call, State};
-use std::collections::BTreeMap;
+use std::collections::{BTreeMap, BTreeSet};
 use szk::lent::{self, Lent};
 use szk::Machine;
 
@@ -54,13 +55,46 @@ fn by_device_1(call: &Call) -> Option<Call> {
     Some(call)
 }
 
+/// How many grants moved pages to other areas, to two of them or more, and both there and to ordinary frames; and how many found too few targets
+/// though another area had a free frame.
+#[derive(Debug, Default)]
+struct Moves {
+    elsewhere: u64,
+    into_two: u64,
+    both: u64,
+    too_few: u64,
+}
+
+impl Moves {
+    fn note(&mut self, before: &State, call: &Call, after: &State, refusal: u64) {
+        let Call::Grant { area, .. } = call else { return };
+        let machine = &before.machine;
+        let area_of = |place: usize| machine.used_areas().iter().position(|a| a.holds(machine.base + place as u64));
+        let areas_where = |test: &dyn Fn(usize) -> bool| -> BTreeSet<Option<usize>> {
+            (0..before.marks.len()).filter(|&p| kind_of(before.marks[p]) == kind::FREE && test(p)).map(area_of).collect()
+        };
+        match refusal {
+            0 => {
+                let taken = areas_where(&|p| kind_of(after.marks[p]) == kind::MOVABLE);
+                let others = taken.iter().flatten().count();
+                self.elsewhere += u64::from(others > 0);
+                self.into_two += u64::from(others > 1);
+                self.both += u64::from(others > 0 && taken.contains(&None));
+            }
+            8 => self.too_few += u64::from(areas_where(&|_| true).iter().flatten().any(|&i| i as u64 != *area)),
+            _ => {}
+        }
+    }
+}
+
 #[test]
 fn calls_on_any_record_and_tables() {
-    let (mut counts, mut for_device) = (Counts::new(), Counts::new());
+    let (mut counts, mut for_device, mut moves) = (Counts::new(), Counts::new(), Moves::default());
     for seed in 101..=104 {
         run(seed, 500_000, &mut |before, call, after, expected| {
             compare(&mut Held::of(before), before, call, after, expected);
             *counts.entry((call.kind(), expected.refusal)).or_default() += 1;
+            moves.note(before, call, after, expected.refusal);
             if expected.refusal == 2 {
                 let other = by_device_1(call).map_or(2, |call| before.clone().apply(&call).refusal);
                 *for_device.entry((call.kind(), 2)).or_default() += u64::from(other != 2);
@@ -72,6 +106,8 @@ fn calls_on_any_record_and_tables() {
     assert_eq!(counts.keys().copied().collect::<Vec<_>>(), possible_pairs());
     assert_eq!(counts.len(), 77);
     println!("all {} pairs of a call and a number that the rules allow were seen, and no other", counts.len());
+    println!("of the grants: {moves:?}");
+    assert!(moves.elsewhere > 500 && moves.into_two > 40 && moves.both > 50 && moves.too_few > 100);
     for_device.retain(|_, times| *times > 0);
     println!("of those refused with 2, for their device alone:");
     for_device.iter().for_each(|((kind, _), times)| println!("{:>12}  {times}", CALLS[usize::from(*kind)]));

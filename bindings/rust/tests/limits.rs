@@ -160,7 +160,8 @@ fn the_most_areas_by_declare() {
     assert_eq!(both.ask(release(63, 17, 1)), (0, 0, 0));
 }
 
-/// A page leaves the last area for an ordinary frame, of which the first 16 are all there are.
+/// A page leaves the last area for the lowest frame of the other 63, since the first 16 frames, the ordinary ones, are used; then for one of those.
+/// Where all frames are used it has nowhere to go.
 #[test]
 fn pages_in_the_last_of_64_areas() {
     let mut both = Both::fresh(80, 64);
@@ -169,10 +170,18 @@ fn pages_in_the_last_of_64_areas() {
         assert_eq!(both.ask(Call::PutMovable { name }), (0, name, 0));
     }
     assert_eq!(both.ask(Call::Store { name: 17, word: 99 }), (0, 0, 0));
-    assert_eq!(both.ask(grant(63, 1)), (8, 0, 0));
-    assert_eq!(both.ask(Call::Drop { name: 3 }), (0, 0, 0));
     assert_eq!(both.ask(grant(63, 1)), (0, 17, 1));
+    assert_eq!(both.ask(Call::Read { name: 17 }), (0, 18, 99));
+    assert_eq!(both.ask(Call::Drop { name: 3 }), (0, 0, 0));
+    assert_eq!(both.ask(grant(62, 1)), (0, 18, 1));
     assert_eq!(both.ask(Call::Read { name: 17 }), (0, 3, 99));
+    assert_eq!(both.ask(release(63, 17, 1)), (0, 0, 0));
+    for name in 18..=80 {
+        let frame = if name == 18 { 17 } else { name };
+        assert_eq!(both.ask(Call::PutMovable { name }), (0, frame, 0));
+    }
+    assert_eq!(both.ask(grant(63, 1)), (8, 0, 0));
+    assert_eq!(both.ask(Call::Read { name: 18 }), (0, 17, 0));
 }
 
 #[test]

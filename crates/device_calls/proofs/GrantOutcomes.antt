@@ -4,7 +4,7 @@
 --     grant-refused, request-passed     the first checks refuse; they pass
 --     none-found, run-fits              no run can be granted; one can, and it lies in the area
 --     nowhere, granted                  the run's pages have nowhere to go; they have
-use Prim.Native.Nat.{ℕ, _+_, _-_, _*_, _≤_, _<_, min}
+use Prim.Native.Nat.{ℕ, _+_, _-_, _*_, _≤_, _<_}
 use native.Mathlib.Omega.{arith}
 use native.Mathlib.Nat.{mul-comm}
 use native.Mathlib.Numerals.{add-one}
@@ -18,29 +18,33 @@ use Rattle.search.specs.Search.{howMany}
 use Rattle.search.proofs.Bools.{below-or-not, or-left, or-right, not-flips}
 use Rattle.answer.specs.Answers.{done}
 use Rattle.bitmap.specs.Bits.{setBits}
+use Rattle.frames.specs.declared.Area.{Area}
 use Rattle.frames.specs.declared.Bit.{Bit}
 use Rattle.frames.specs.declared.Frame.{Frame}
 use Rattle.frames.specs.declared.Place.{Place}
-use Rattle.frames.specs.Units.{place, mostNumber}
+use Rattle.frames.specs.Units.{mostNumber}
 use Rattle.frames.specs.Marks.{hasKind, movable}
 use Rattle.frames.specs.Areas.{bitCount, bitsFor, frameOfBit}
-use Rattle.frames.specs.Scans.{marked, isFreeOrdinary}
+use Rattle.frames.specs.Scans.{marked}
+use Rattle.frames.specs.Targets.{isFreeOutside}
 use Rattle.frames.specs.Tables.{Tables, tables, fill, withBitmap, withOwners}
 use Rattle.rules.specs.declared.Record.{Record}
-use Rattle.rules.specs.Record.{areaAt, isOrdinary}
-use Rattle.rules.specs.Limits.{mostAreas, mostFrames, mostBlockOrder, mostAlignOrder, leastDevice, mostDevice}
+use Rattle.rules.specs.Record.{areaAt}
+use Rattle.rules.specs.Limits.{mostFrames, mostBlockOrder, mostAlignOrder, leastDevice, mostDevice}
 use Rattle.rules.specs.Shape.{shapeRight}
 use Rattle.rules.specs.Outcomes.{outcome, refuse, First, here, there, Passed}
-use Rattle.rules.specs.PageCalls.{freeOrdinary}
-use Rattle.rules.specs.DeviceCalls.{badDevice, isUnknown, bitmapOf, placeOfBit, isCandidate, isGrantable, chosen, movers, targets, moveOut, markRun, takeRun, grantChecks, grant}
+use Rattle.rules.specs.Targets.{isTarget, targets}
+use Rattle.rules.specs.DeviceCalls.{badDevice, isUnknown, bitmapOf, placeOfBit, isCandidate, isGrantable, chosen, movers, moveOut, markRun, takeRun, grantChecks, grant}
 use Rattle.rules.proofs.Checks.{checked-first, checked-stop, checked-pass, checked-end}
 use Rattle.rules.proofs.Shapes.{shape-known}
-use Rattle.rules.proofs.AreaRight.{area-known, in-area}
+use Rattle.rules.proofs.AreaRight.{area-known}
 use Rattle.rules.proofs.FirstWords.{first-word-exact}
 use Rattle.rules.proofs.promises.Grants.{first-known}
+use Rattle.rules.proofs.promises.Shapes.{shape-is-right}
 use Rattle.rules.proofs.ledger.GrantedRun.{run-inside}
+use Rattle.frames.proofs.AreaFacts.{holds-yes}
 use Rattle.device_calls.specs.steps.Refusals.{firstNumber}
-use Rattle.device_calls.specs.steps.DeviceSteps.{SearchFits, RunFits}
+use Rattle.device_calls.specs.steps.DeviceSteps.{SearchFits, LeavesArea, RunFits}
 use Rattle.device_calls.proofs.RefusalFacts.{refused-first, passed-by}
 use Rattle.device_calls.proofs.Alignment.{lower-multiple}
 use Rattle.device_calls.proofs.MoveFacts.{out-others}
@@ -58,22 +62,22 @@ module _ (m : Record) (t : Tables) (i count : ℕ) (j : Bit) where
   abbrev beside : List ℕ → List ℕ → Tables → Tables
   beside bs os x = withOwners (withBitmap x bs) os
 
-  pub taken : (device : ℕ) {ms₁ ws₁ ms₂ ws₂ bs os : List ℕ} {p : Place} {start n : ℕ} → p ≡ first → tables ms₁ ws₁ [] [] ≡ moveOut m (tables (t .marks) (t .words) [] []) p count →
+  pub taken : (device : ℕ) {ms₁ ws₁ ms₂ ws₂ bs os : List ℕ} {p : Place} {start n : ℕ} → p ≡ first → tables ms₁ ws₁ [] [] ≡ moveOut m (tables (t .marks) (t .words) [] []) i p count →
       tables ms₂ ws₂ [] [] ≡ markRun (tables ms₁ ws₁ [] []) p count → start ≡ bitmapOf m i → n ≡ bitsFor (areaAt m i) count → bs ≡ setBits (t .bitmap) start (j .0) n →
       os ≡ fill (t .owners) (p .0) count device → tables ms₂ ws₂ bs os ≡ takeRun m t i count j device
   unfolding takeRun
   taken device {ms₁} {ws₁} {ms₂} {ws₂} {bs} {os} {p} {start} {n} e out marks st ns bits owners =
-      let moved : beside (t .bitmap) (t .owners) (tables ms₁ ws₁ [] []) ≡ moveOut m t first count =
-      ap (beside (t .bitmap) (t .owners)) (out ∙ ap (λ (y : Place). moveOut m (tables (t .marks) (t .words) [] []) y count) e) ∙
-      out-others m (t .bitmap) (t .owners) (tables (t .marks) (t .words) [] []) first count in
+      let moved : beside (t .bitmap) (t .owners) (tables ms₁ ws₁ [] []) ≡ moveOut m t i first count =
+      ap (beside (t .bitmap) (t .owners)) (out ∙ ap (λ (y : Place). moveOut m (tables (t .marks) (t .words) [] []) i y count) e) ∙
+      out-others m i (t .bitmap) (t .owners) (tables (t .marks) (t .words) [] []) first count in
       ap (beside bs os) (marks ∙ ap (λ (y : Place). markRun (tables ms₁ ws₁ [] []) y count) e) ∙
       ap (λ (x : Tables). beside bs os (markRun x first count)) moved ∙
-      ap₂ (λ (x y : List ℕ). beside x y (markRun (moveOut m t first count) first count)) (bits ∙ ap₂ (λ (x y : ℕ). setBits (t .bitmap) x (j .0) y) st ns)
+      ap₂ (λ (x y : List ℕ). beside x y (markRun (moveOut m t i first count) first count)) (bits ∙ ap₂ (λ (x y : ℕ). setBits (t .bitmap) x (j .0) y) st ns)
       (owners ∙ ap (λ (y : Place). fill (t .owners) (y .0) count device) e)
 
-  targets-found : length (t .marks) ≡ m .memory .frames → howMany (isFreeOrdinary (t .marks) (m .memory .base) (m .areas) (m .memory .declared)) 0 (length (t .marks)) ≡ targets m t
-  unfolding targets freeOrdinary isFreeOrdinary
-  targets-found e = ap (λ (n : ℕ). howMany (isFreeOrdinary (t .marks) (m .memory .base) (m .areas) (m .memory .declared)) 0 n) e
+  targets-found : {a : Area} → a ≡ areaAt m i → length (t .marks) ≡ m .memory .frames → howMany (isFreeOutside (t .marks) (m .memory .base) a) 0 (length (t .marks)) ≡ targets m t i
+  unfolding targets isTarget isFreeOutside
+  targets-found e size = ap₂ (λ (x : Area) (n : ℕ). howMany (isFreeOutside (t .marks) (m .memory .base) x) 0 n) e size
 
   movers-found : {p : Place} → p ≡ first → howMany (marked (hasKind movable) (t .marks)) (p .0) count ≡ movers t first count
   unfolding movers
@@ -85,11 +89,9 @@ module _ (m : Record) (t : Tables) (i count : ℕ) (j : Bit) where
     pub words-high : bitmapOf m i ≤ mostNumber
     pub frame-high : frameOfBit (areaAt m i) j .0 ≤ mostNumber
     pub count-high : count ≤ mostFrames
-    pub declared-high : m .memory .declared ≤ mostAreas
-    pub end-high : first .0 + count ≤ m .memory .frames
+    pub leaves : LeavesArea m i (first .0) count
     pub marks-length : length (t .marks) ≡ m .memory .frames
     pub words-length : length (t .words) ≡ m .memory .frames
-    pub held : (k : ℕ) → first .0 ≤ k → k < first .0 + count → isOrdinary m (place k) ≡ false
 
   pub run-known : RunFits m t i count j → RunKnown
   run-known f =
@@ -101,11 +103,16 @@ module _ (m : Record) (t : Tables) (i count : ℕ) (j : Bit) where
         words-high = omega (arith, first-word-exact m t (f .shape) i (let h : i ≤ m .memory .declared = omega (arith, f .known) in h));
         frame-high = omega (arith, k .memory .end-high);
         count-high = omega (arith, r .low, k .memory .frames-high);
-        declared-high = k .declared-high;
-        end-high = omega (arith, r .low);
+        leaves =
+            record {
+              known = f .known;
+              few = k .declared-high;
+              room = omega (arith, r .low);
+              held = λ q u v. holds-yes (areaAt m i) (m .memory .base .0 + q) (omega (arith, r .low)) (omega (arith, r .low, f .in-area));
+              apart = λ g n a b. shape-is-right m t .0 (f .shape) .disjoint g i n a b;
+            };
         marks-length = k .marks-length;
         words-length = k .words-length;
-        held = λ q u v. in-area m i q (f .known) (omega (arith, r .low)) (omega (arith, r .low, f .in-area));
       }
 
 module _ (m : Record) (i count align device : ℕ) (t : Tables) where
@@ -189,33 +196,29 @@ module _ (m : Record) (i count align device : ℕ) (t : Tables) where
         run-fits = record { shape = shaped; known = known; positive = positive; in-area = run-inside (areaAt m i) (r .0) count has-room }
 
         -- ---- n movable frames, and whether there are as many targets
-        module _ {p : Place} (at : p ≡ placeOfBit m i r) {n : ℕ} (counted : n ≡ howMany (marked (hasKind movable) (t .marks)) (p .0) count) {h : Bool}
-            (enough : h ≡ leb n (howMany (isFreeOrdinary (t .marks) (m .memory .base) (m .areas) (min (m .memory .declared) mostAreas)) 0 (length (t .marks)))) where
+        module _ {p : Place} (at : p ≡ placeOfBit m i r) {n : ℕ} (counted : n ≡ howMany (marked (hasKind movable) (t .marks)) (p .0) count) {h : Bool} {a : Area}
+            (it : a ≡ areaAt m i) (enough : h ≡ leb n (howMany (isFreeOutside (t .marks) (m .memory .base) a) 0 (length (t .marks)))) where
           is-movers : n ≡ movers t (placeOfBit m i r) count
           is-movers = counted ∙ movers-found m t i count r at
 
-          few-declared : min (m .memory .declared) mostAreas ≡ m .memory .declared
-          few-declared = omega (arith, shape-known m t shaped .declared-high)
-
-          is-enough : h ≡ leb n (targets m t)
-          is-enough =
-              enough ∙ ap (λ (k : ℕ). leb n (howMany (isFreeOrdinary (t .marks) (m .memory .base) (m .areas) k) 0 (length (t .marks)))) few-declared ∙ ap (leb n) (targets-found m t i count r (shape-known m t shaped .marks-length))
+          is-enough : h ≡ leb n (targets m t i)
+          is-enough = enough ∙ ap (leb n) (targets-found m t i count r it (shape-known m t shaped .marks-length))
 
           -- the last check
-          too-few : ltb (targets m t) (movers t (placeOfBit m i (chosen m t i count align)) count) ≡ ltb (targets m t) n
-          too-few = ap (λ (x : Bit). ltb (targets m t) (movers t (placeOfBit m i x) count)) chosen-is ∙ ap (ltb (targets m t)) (sym is-movers)
+          too-few : ltb (targets m t i) (movers t (placeOfBit m i (chosen m t i count align)) count) ≡ ltb (targets m t i) n
+          too-few = ap (λ (x : Bit). ltb (targets m t i) (movers t (placeOfBit m i x) count)) chosen-is ∙ ap (ltb (targets m t i)) (sym is-movers)
 
           pub nowhere : h ≡ false → grant m i count align device t ≡ refuse m t 8
           unfolding grant
           nowhere f =
               checked-pass m t _ _ _ (passed .0) ∙ checked-pass m t _ _ _ (passed .1 .0) ∙ checked-pass m t _ _ _ (none-left ∙ lt-leb all (r .0) found) ∙
-              checked-stop m t _ _ _ (too-few ∙ lt-ltb (targets m t) n (leb-false n (targets m t) (sym is-enough ∙ f)))
+              checked-stop m t _ _ _ (too-few ∙ lt-ltb (targets m t i) n (leb-false n (targets m t i) (sym is-enough ∙ f)))
 
           pub granted : {f : Frame} {u : Tables} → h ≡ true → f ≡ frameOfBit (areaAt m i) r → u ≡ takeRun m t i count r device → grant m i count align device t ≡ outcome m (done (f .0) n) u
           unfolding grant
           granted {f} {u} y fe ue =
               checked-pass m t _ _ _ (passed .0) ∙ checked-pass m t _ _ _ (passed .1 .0) ∙ checked-pass m t _ _ _ (none-left ∙ lt-leb all (r .0) found) ∙
-              checked-pass m t _ _ _ (too-few ∙ le-ltb (targets m t) n (leb-true n (targets m t) (sym is-enough ∙ y))) ∙ checked-end m t _ ∙
+              checked-pass m t _ _ _ (too-few ∙ le-ltb (targets m t i) n (leb-true n (targets m t i) (sym is-enough ∙ y))) ∙ checked-end m t _ ∙
               ap (λ (x : Bit). outcome m (done (frameOfBit (areaAt m i) x .0) (movers t (placeOfBit m i x) count)) (takeRun m t i count x device)) chosen-is ∙
               ap (λ (x : Frame). outcome m (done (x .0) (movers t (placeOfBit m i r) count)) (takeRun m t i count r device)) (sym fe) ∙
               ap₂ (λ (k : ℕ) (x : Tables). outcome m (done (f .0) k) x) (sym is-movers) (sym ue)

@@ -29,7 +29,7 @@ use frames::area_at;
 use frames::count_movable;
 use frames::fill_places;
 use frames::fill_words;
-use frames::has_free_ordinary;
+use frames::has_free_outside;
 use frames::place_of;
 use moves::mark_run;
 use moves::move_out;
@@ -175,7 +175,7 @@ fn take_run(
     let start = bitmap_start(areas, area);
     let page = place_of(memory.base, frame_of_bit(a, run));
     let bits = a.bits_for(count) as usize;
-    move_out(memory, areas, marks, words, page, count);
+    move_out(memory, areas, marks, words, area, page, count);
     mark_run(marks, words, page, count);
     set_run(bitmap, start, run.0, bits);
     fill_places(owners, page, count, device);
@@ -205,7 +205,7 @@ fn grant_lowest(
     let first = frame_of_bit(a, run);
     let page = place_of(memory.base, first);
     let moved = count_movable(marks, page, count);
-    if !has_free_ordinary(marks, memory.base, areas, memory.declared, moved) {
+    if !has_free_outside(marks, memory.base, a, moved) {
         return Answer::refused(refusal::NO_TARGET);
     }
     take_run(

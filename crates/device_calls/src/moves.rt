@@ -1,28 +1,25 @@
 // A run becomes a grant: its movable pages go out, one after the other, and its frames are marked.
 ghost use mathlib.Core.Path.{_≡_};
-ghost use mathlib.Core.Bool.{false};
 ghost use mathlib.Core.List.{[]};
-ghost use Prim.Native.Nat.{ℕ, _+_, _-_, _≤_, _<_};
+ghost use Prim.Native.Nat.{_-_, _≤_, _<_};
 ghost use lib.ListN.{length};
 ghost use Rattle.search.specs.Search.{lowestFrom};
-ghost use Rattle.frames.specs.Units.{place};
 ghost use Rattle.frames.specs.Marks.{hasKind, movable};
 ghost use Rattle.frames.specs.Tables.{tables};
 ghost use Rattle.frames.specs.Scans.{marked};
-ghost use Rattle.rules.specs.Limits.{mostAreas, mostFrames};
-ghost use Rattle.rules.specs.Record.{isOrdinary};
+ghost use Rattle.rules.specs.Limits.{mostFrames};
 ghost use Rattle.rules.specs.Does.{recordWith, given};
 ghost use Rattle.rules.specs.DeviceCalls.{moveOut, markRun};
-ghost use Rattle.device_calls.specs.steps.DeviceSteps.{pageMoved};
+ghost use Rattle.device_calls.specs.steps.DeviceSteps.{pageMoved, LeavesArea};
 use frames::Place;
-use frames::Stretch;
+use frames::Seeking;
 use frames::fill_places;
 use frames::fill_words;
 use frames::in_order;
 use frames::kinds::HEAD;
 use frames::kinds::LATER;
 use frames::kinds::MOVABLE;
-use frames::next_free;
+use frames::next_target;
 use rules::Memory;
 
 // The lowest place of a range that has a movable page; the range's end where there is none.
@@ -55,18 +52,19 @@ fn move_page(marks: &mut [u32], words: &mut [u64], page: Place, to: Place)
     words[at] = 0;
 }
 
-// The movable pages of a run that lies in an area go out, ascending, each to the lowest free ordinary frame. No place below the last one's
-// is free and ordinary any more, so that the next search begins there, and each area is passed once.
+// The movable pages of a run that lies in an area go out, ascending, each to the first target then. No place that was passed is a target any
+// more, so that the next search begins where the last one ended.
 pub(crate) fn move_out(
     memory: Memory,
     areas: &[u64],
     marks: &mut [u32],
     words: &mut [u64],
+    area: u64,
     page: Place,
     count: u64,
 )
-    requires { ⌜ (memory .declared ≤ mostAreas) × (page .0 + count ≤ memory .frames) × (length (now marks) ≡ memory .frames) × (length (now words) ≡ memory .frames) × ((k : ℕ) → page .0 ≤ k → k < page .0 + count → isOrdinary (recordWith memory (now areas)) (place k) ≡ false) ⌝ }
-    ensures { λ _. ⌜ tables (now (marks .exit)) (now (words .exit)) [] [] ≡ moveOut (given memory areas) (tables (now (marks .entry)) (now (words .entry)) [] []) page count ⌝ }
+    requires { ⌜ LeavesArea (recordWith memory (now areas)) area (page .0) count × (length (now marks) ≡ memory .frames) × (length (now words) ≡ memory .frames) ⌝ }
+    ensures { λ _. ⌜ tables (now (marks .exit)) (now (words .exit)) [] [] ≡ moveOut (given memory areas) (tables (now (marks .entry)) (now (words .entry)) [] []) area page count ⌝ }
 {
     let end = Place(page.0 + count as usize);
     let mut at = next_movable(marks, page, end);
@@ -74,10 +72,10 @@ pub(crate) fn move_out(
         return;
     }
     let order = in_order(areas, memory.declared);
-    let mut stretch = Stretch::none();
+    let mut seeking = Seeking::none();
     while at.0 < end.0 {
-        stretch = next_free(marks, memory.base, areas, order, stretch);
-        let to = stretch.first();
+        seeking = next_target(marks, memory.base, areas, order, area as usize, seeking);
+        let to = seeking.place();
         move_page(marks, words, at, to);
         at = next_movable(marks, Place(at.0 + 1), end);
     }

@@ -9,8 +9,8 @@ use mathlib.Core.List.{List}
 use lib.Dec.{leb, ltb}
 use lib.ListN.{length}
 use lib.Pow.{shl-exact}
-use borrow.Author.Tests.{lt-ltb, le-ltb, le-leb, lt-leb}
-use Rattle.search.proofs.Bools.{below-or-not, and-both, and-false-right}
+use borrow.Author.Tests.{leb-true, ltb-true, lt-ltb, le-ltb, le-leb, lt-leb}
+use Rattle.search.proofs.Bools.{below-or-not, and-left, and-right, and-both, and-false-right}
 use Rattle.search.proofs.Ranges.{some-hit, none-some}
 use Rattle.frames.specs.declared.Area.{Area}
 use Rattle.frames.specs.declared.Frame.{Frame}
@@ -23,6 +23,12 @@ use Rattle.frames.proofs.AreaNumbers.{area-past}
 module _ (a : Area) (f : ℕ) where
   pub holds-yes : a .base .0 ≤ f → f < endOf a → holdsFrame a (frame f) ≡ true
   holds-yes h k = and-both (leb (a .base .0) f) (ltb f (endOf a)) (le-leb (a .base .0) f h) (lt-ltb f (endOf a) k)
+
+  pub holds-low : holdsFrame a (frame f) ≡ true → a .base .0 ≤ f
+  holds-low e = leb-true (a .base .0) f (and-left (leb (a .base .0) f) (ltb f (endOf a)) e)
+
+  pub holds-high : holdsFrame a (frame f) ≡ true → f < endOf a
+  holds-high e = ltb-true f (endOf a) (and-right (leb (a .base .0) f) (ltb f (endOf a)) e)
 
   pub holds-below : f < a .base .0 → holdsFrame a (frame f) ≡ false
   holds-below h = rw (lt-leb (a .base .0) f h)

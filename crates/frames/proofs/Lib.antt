@@ -6,4 +6,5 @@ pub mod Orders
 pub mod ScanFacts
 pub mod StretchFacts
 pub mod Stuck
+pub mod TargetFacts
 pub mod Walks

@@ -5,9 +5,8 @@
 --     Passing     a check that each place passes: each place before i does
 --     Taking      the places that pass are taken off a number, as long as it is not 0
 --     Counting    a count of the places that pass: `found` of them before i
-use Prim.Native.Nat.{ℕ, suc, _+_, _-_, _≤_, _<_}
+use Prim.Native.Nat.{ℕ, _+_, _-_, _≤_, _<_}
 use native.Mathlib.Nat.{le-refl}
-use native.Mathlib.Numerals.{add-one}
 use native.Mathlib.Omega.{arith}
 use mathlib.Core.Path.{_≡_, refl, sym, ap, subst, _∙_}
 use mathlib.Core.Bool.{Bool, true, false, _||_}
@@ -16,7 +15,7 @@ use Rattle.search.specs.Search.{lowestFrom, some, every, howMany}
 use Rattle.search.proofs.Bools.{by-cases, below-or-not}
 use Rattle.search.proofs.Lowest.{Least, lowest-least, lowest-is, lowest-here, lowest-skip, lowest-next, lowest-end}
 use Rattle.search.proofs.Ranges.{some-none, some-next, all-every, every-miss}
-use Rattle.search.proofs.Counts.{many-none, many-next, many-split, many-zero, many-le, many-suc}
+use Rattle.search.proofs.Counts.{many-none, many-next, many-split, many-zero, many-le}
 
 pub record Seeking (p : ℕ → Bool) (from end i : ℕ) : Type 0 where
   pub rest : lowestFrom p from (end - from) ≡ lowestFrom p i (end - i)
@@ -186,17 +185,15 @@ pub record Taking (p : ℕ → Bool) (from end least left i : ℕ) : Type 0 wher
   pub rest : least - howMany p from (end - from) ≡ left - howMany p i (end - i)
 
 module _ {p : ℕ → Bool} {from end least left i : ℕ} (s : Taking p from end least left i) where
-  pub take-turn : i < end → Taking p from end least (left - (if p i then 1 else 0)) (i + 1)
-  take-turn h =
-      let e : end - i ≡ suc (end - (i + 1)) = omega arith in
-      let f : howMany p i (end - i) ≡ (if p i then 1 else 0) + howMany p (i + 1) (end - (i + 1)) =
-      ap (howMany p i) e ∙ many-suc p i (end - (i + 1)) ∙ rw (add-one i) refl in
+  -- a part of the range, at once
+  pub take-part : (d : ℕ) → i + d ≤ end → Taking p from end least (left - howMany p i d) (i + d)
+  take-part d h =
+      let e : end - i ≡ d + (end - (i + d)) = omega arith in
+      let f : howMany p i (end - i) ≡ howMany p i d + howMany p (i + d) (end - (i + d)) = ap (howMany p i) e ∙ many-split p i d (end - (i + d)) in
       record { rest = s .rest ∙ omega (arith, f) }
 
   pub take-done : left ≡ 0 → 0 ≡ least - howMany p from (end - from)
   take-done h = omega (arith, s .rest)
 
-  pub take-end : end ≤ i → left ≡ least - howMany p from (end - from)
-  take-end h =
-      let e : end - i ≡ 0 = omega arith in
-      sym (s .rest ∙ omega (arith, ap (howMany p i) e ∙ many-none p i))
+  pub take-rest : left - howMany p i (end - i) ≡ least - howMany p from (end - from)
+  take-rest = sym (s .rest)

@@ -1,6 +1,6 @@
 -- The scans for a kind, in the rules' words. Assumes nothing.
 --     seek-free     a mark with none of the kind's bits is free
---     no-bits, count-movable, count-granted    a count by the kind's bits: a mark past the end has none; the movable, a grant's
+--     no-bits, count-free, count-movable, count-granted    a count by the kind's bits: a mark past the end has none; the free, the movable, a grant's
 --     stuck-none, stuck-low, stuck-found, stuck-left    the first place of a range that is neither free nor movable
 use Prim.Native.Nat.{ℕ, _+_, _-_, _*_, _/_, _%_, _≤_, _<_, min}
 use native.Mathlib.Omega.{arith}
@@ -48,6 +48,10 @@ pub no-bits : (mask kind : ℕ) → 0 < kind → bitsAre mask kind 0 ≡ false
 unfolding bitsAre
 no-bits mask kind h = ne-eqb (bitAnd 0 mask) kind (λ e. omega (arith, and-zero-l mask))
 
+free-kind : (mark : ℕ) → bitsAre 7 0 mark ≡ hasKind free mark
+unfolding bitsAre
+free-kind mark = ap (λ (x : ℕ). eqb x 0) (and-mask mark 3)
+
 movable-seen : (mark : ℕ) → bitsAre 7 1 mark ≡ hasKind movable mark
 unfolding bitsAre
 movable-seen mark = ap (λ (x : ℕ). eqb x 1) (and-mask mark 3)
@@ -61,6 +65,9 @@ granted-seen mark =
     (λ f. let is-not = eqb-false (bitAnd mark 6) 4 f in f ∙ sym (not-granted mark (λ e. is-not (omega arith)) (λ e. is-not (omega arith))))
 
 module _ (marks : List ℕ) (i d : ℕ) where
+  pub count-free : howMany (marked (bitsAre 7 0) marks) i d ≡ howMany (marked (hasKind free) marks) i d
+  count-free = many-cong (marked (bitsAre 7 0) marks) (marked (hasKind free) marks) i d (λ k a b. free-kind (getD marks k 0))
+
   pub count-movable : howMany (marked (bitsAre 7 1) marks) i d ≡ howMany (marked (hasKind movable) marks) i d
   count-movable = many-cong (marked (bitsAre 7 1) marks) (marked (hasKind movable) marks) i d (λ k a b. movable-seen (getD marks k 0))
 

@@ -4,6 +4,7 @@ pub mod Marks
 pub mod Orders
 pub mod Scans
 pub mod Tables
+pub mod Targets
 pub mod Units
 pub mod Walk
 pub mod steps

@@ -4,6 +4,7 @@ mod fills;
 pub mod kinds;
 mod marks;
 mod order;
+mod targets;
 mod units;
 mod walk;
 
@@ -20,13 +21,13 @@ pub use marks::find_free;
 pub use marks::find_free_ordinary;
 pub use marks::find_page;
 pub use marks::first_stuck;
-pub use marks::has_free_ordinary;
-pub use marks::next_free;
 pub use order::Order;
 pub use order::in_order;
+pub use targets::Seeking;
+pub use targets::has_free_outside;
+pub use targets::next_target;
 pub use units::frame_at;
 pub use units::place_of;
-pub use walk::Stretch;
 
 // A physical frame number.
 pub struct Frame(pub u64);

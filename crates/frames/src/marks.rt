@@ -4,7 +4,7 @@
 ghost use Prim.Native.Nat.{_≤_, _<_, _+_, _-_, min};
 ghost use mathlib.Core.Path.{_≡_};
 ghost use mathlib.Core.Bool.{true, not};
-ghost use lib.Dec.{leb};
+ghost use mathlib.Core.Logic.{_⊎_};
 ghost use lib.ListN.{length};
 ghost use Rattle.search.specs.Choice.{if_then_else_};
 ghost use Rattle.search.specs.Search.{lowest, lowestFrom, some, every, howMany};
@@ -30,6 +30,12 @@ use crate::walk::next_stretch;
 
 // The largest field that a mark has room for.
 const MOST_FIELD: u64 = 0x1fff_ffff;
+
+// How many marks a block has.
+const BLOCK: usize = 32;
+
+// After how many marks a count asks whether it has counted enough.
+const COUNTED: usize = 64;
 
 // The mark is a page of that name.
 fn is_page(mark: u32, name: u32) -> bool
@@ -79,7 +85,7 @@ fn block_has_field(marks: &[u32], field: u32, from: Place) -> bool
     let first = from.0;
     let mut hit = false;
     let mut j = 0;
-    while j < 32 {
+    while j < BLOCK {
         hit = hit | (marks[first + j] / 8 == field);
         j += 1;
     }
@@ -91,7 +97,7 @@ fn page_in_block(marks: &[u32], name: u32, from: Place) -> Place
     requires { ⌜ from .0 + 32 ≤ length (now marks) ⌝ }
     ensures { λ r. ⌜ r .0 ≡ lowestFrom (marked (isPageOf name) (now (marks .entry))) (from .0) ((from .0 + 32) - from .0) ⌝ }
 {
-    let end = Place(from.0 + 32);
+    let end = Place(from.0 + BLOCK);
     if block_has_field(marks, name, from) {
         return page_one_by_one(marks, name, from, end);
     }
@@ -105,12 +111,12 @@ fn page_in(marks: &[u32], name: u32, from: Place, end: Place) -> Place
 {
     let last = end.0;
     let mut i = from.0;
-    while 32 <= last - i {
+    while BLOCK <= last - i {
         let at = page_in_block(marks, name, Place(i));
-        if at.0 < i + 32 {
+        if at.0 < i + BLOCK {
             return at;
         }
-        i += 32;
+        i += BLOCK;
     }
     page_one_by_one(marks, name, Place(i), end)
 }
@@ -127,7 +133,7 @@ pub fn find_page(marks: &[u32], name: u64) -> Place
 }
 
 // The bits of a mark's kind. A free mark has none of them; the upper two are those that neither a free nor a movable one has.
-const KIND_BITS: u32 = 7;
+pub(crate) const KIND_BITS: u32 = 7;
 
 const STUCK_BITS: u32 = 6;
 
@@ -168,7 +174,7 @@ fn block_has_kind(marks: &[u32], mask: u32, any: bool, from: Place) -> bool
     let first = from.0;
     let mut hit = false;
     let mut j = 0;
-    while j < 32 {
+    while j < BLOCK {
         hit = hit | has_bits(marks[first + j], mask, any);
         j += 1;
     }
@@ -176,17 +182,17 @@ fn block_has_kind(marks: &[u32], mask: u32, any: bool, from: Place) -> bool
 }
 
 // The lowest place of a range whose mark has a bit of the mask, or none; the range's end where there is no such.
-fn kind_in(marks: &[u32], mask: u32, any: bool, from: Place, end: Place) -> Place
+pub(crate) fn kind_in(marks: &[u32], mask: u32, any: bool, from: Place, end: Place) -> Place
     requires { ⌜ (from .0 ≤ end .0) × (end .0 ≤ length (now marks)) ⌝ }
     ensures { λ r. ⌜ r .0 ≡ lowestFrom (marked (hasBits any mask) (now (marks .entry))) (from .0) (end .0 - from .0) ⌝ }
 {
     let last = end.0;
     let mut i = from.0;
-    while 32 <= last - i {
+    while BLOCK <= last - i {
         if block_has_kind(marks, mask, any, Place(i)) {
             return kind_one_by_one(marks, mask, any, Place(i), end);
         }
-        i += 32;
+        i += BLOCK;
     }
     kind_one_by_one(marks, mask, any, Place(i), end)
 }
@@ -205,7 +211,7 @@ fn stuck_in(marks: &[u32], from: Place, end: Place) -> Place
     requires { ⌜ (from .0 ≤ end .0) × (end .0 ≤ length (now marks)) ⌝ }
     ensures { λ r. ⌜ r .0 ≡ lowestFrom (marked (hasBits true 6) (now (marks .entry))) (from .0) (end .0 - from .0) ⌝ }
 {
-    if end.0 - from.0 < 32 {
+    if end.0 - from.0 < BLOCK {
         return kind_one_by_one(marks, STUCK_BITS, true, from, end);
     }
     let few = Place(from.0 + 8);
@@ -268,9 +274,9 @@ fn is_kind(mark: u32, mask: u32, kind: u32) -> u64
     0
 }
 
-// How many of the `count` places from `from` on have such a mark. The kind is not that of a free one, which a mark past the end reads as.
+// How many of the `count` places from `from` on have such a mark. Where they pass the end, the kind is not that of a free one, which a mark reads as there.
 fn count_kind(marks: &[u32], mask: u32, kind: u32, from: Place, count: u64) -> u64
-    requires { ⌜ 0 < kind ⌝ }
+    requires { ⌜ (0 < kind) ⊎ (from .0 + count ≤ length (now marks)) ⌝ }
     ensures { λ r. ⌜ r ≡ howMany (marked (bitsAre mask kind) (now (marks .entry))) (from .0) count ⌝ }
 {
     let end = range_end(from.0, count, marks.len());
@@ -346,7 +352,7 @@ pub fn find_free_ordinary(marks: &[u32], base: Frame, areas: &[u64], declared: u
 // The lowest free place from the stretch's first on that is in no area of the order, with the end of the ordinary places that it is among. Where
 // that ends, and how many areas count as passed, is left open: only time rests on it. Of an order or a stretch that `frames` did not make for
 // these areas, this base and as many marks nothing is said.
-pub fn next_free(
+pub(crate) fn next_free(
     marks: &[u32],
     base: Frame,
     areas: &[u64],
@@ -372,60 +378,39 @@ pub fn next_free(
     free_stretch(marks, base, areas, order, end, stretch.next)
 }
 
-// What is left of `least` after the free places of a range are taken off.
-fn less_free(marks: &[u32], from: Place, end: Place, least: u64) -> u64
+// A number less another, or 0.
+fn less(a: u64, b: u64) -> u64
+    ensures { λ r. ⌜ r ≡ a - b ⌝ }
+{
+    if a <= b {
+        return 0;
+    }
+    a - b
+}
+
+// What is left of `least` after the free places of a range are taken off. They are counted by so many at a time, until nothing is left.
+pub(crate) fn less_free(marks: &[u32], from: Place, end: Place, least: u64) -> u64
     requires { ⌜ (from .0 ≤ end .0) × (end .0 ≤ length (now marks)) ⌝ }
     ensures { λ r. ⌜ r ≡ least - howMany (marked (hasKind free) (now (marks .entry))) (from .0) (end .0 - from .0) ⌝ }
 {
     let mut left = least;
     let last = end.0;
     let mut i = from.0;
-    while i < last {
+    while COUNTED <= last - i {
         if left == 0 {
             return 0;
         }
-        left -= is_free(marks[i]);
-        i += 1;
+        left = less(
+            left,
+            count_kind(marks, KIND_BITS, FREE, Place(i), COUNTED as u64),
+        );
+        i += COUNTED;
     }
-    left
-}
-
-// 1 for a free mark, else 0.
-fn is_free(mark: u32) -> u64
-    ensures { λ r. ⌜ r ≡ (if hasKind free mark then 1 else 0) ⌝ }
-{
-    if mark % 8 == FREE {
-        return 1;
+    if left == 0 {
+        return 0;
     }
-    0
-}
-
-// At least `least` free places are in none of the first `declared` areas, as far as a record can have them.
-pub fn has_free_ordinary(
-    marks: &[u32],
-    base: Frame,
-    areas: &[u64],
-    declared: u64,
-    least: u64,
-) -> bool
-    ensures { λ r. ⌜ r ≡ leb least (howMany (isFreeOrdinary (now (marks .entry)) base (now (areas .entry)) (min declared mostAreas)) 0 (length (now (marks .entry)))) ⌝ }
-{
-    if least == 0 {
-        return true;
-    }
-    let len = marks.len();
-    let order = in_order(areas, declared);
-    let mut left = least;
-    let mut i = 0;
-    let mut next = 0;
-    while i < len {
-        if left == 0 {
-            return true;
-        }
-        let stretch = next_stretch(base, areas, order, Place(i), next, Place(len));
-        left = less_free(marks, stretch.from, stretch.end, left);
-        i = stretch.end.0;
-        next = stretch.next;
-    }
-    left == 0
+    less(
+        left,
+        count_kind(marks, KIND_BITS, FREE, Place(i), (last - i) as u64),
+    )
 }

@@ -10,7 +10,7 @@ use crate::order::Order;
 use crate::units::place_of;
 
 // Some places in a row: the first, and the one after the last. The areas before `next`, in their order, end before them.
-pub struct Stretch {
+pub(crate) struct Stretch {
     pub(crate) from: Place,
     pub(crate) end: Place,
     pub(crate) next: usize,
@@ -18,7 +18,7 @@ pub struct Stretch {
 
 impl Stretch {
     // Before the first: no place.
-    pub fn none() -> Self
+    pub(crate) fn none() -> Self
         ensures { λ r. ⌜ r ≡ record { from = place 0; end = place 0; next = 0 } ⌝ }
     {
         Self {
@@ -26,13 +26,6 @@ impl Stretch {
             end: Place(0),
             next: 0,
         }
-    }
-
-    // The first of them.
-    pub fn first(self) -> Place
-        ensures { λ r. ⌜ r ≡ self .from ⌝ }
-    {
-        self.from
     }
 }
 
@@ -47,7 +40,7 @@ pub(crate) fn earlier_place(a: Place, b: Place) -> Place
 }
 
 // The later of two places.
-fn later_place(a: Place, b: Place) -> Place
+pub(crate) fn later_place(a: Place, b: Place) -> Place
     ensures { λ r. ⌜ r .0 ≡ max (a .0) (b .0) ⌝ }
 {
     if a.0 < b.0 {

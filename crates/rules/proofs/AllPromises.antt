@@ -13,7 +13,7 @@ use Rattle.rules.proofs.promises.Rounded.{amounts-round, limit-rounds}
 use Rattle.rules.proofs.promises.Shapes.{shape-is-right}
 use Rattle.rules.proofs.promises.Devices.{accepted-device-store, accepted-device-read}
 use Rattle.rules.proofs.promises.Grants.{grant-is-first-fit}
-use Rattle.rules.proofs.promises.Pages.{accepted-put-movable, accepted-put-fixed, live-if-stands, accepted-drop, accepted-pin, accepted-unpin, accepted-store, accepted-read, store-then-read, pinned-pages-stay}
+use Rattle.rules.proofs.promises.Pages.{free-is-meant, accepted-put-movable, accepted-put-fixed, live-if-stands, accepted-drop, accepted-pin, accepted-unpin, accepted-store, accepted-read, store-then-read, pinned-pages-stay}
 use Rattle.rules.proofs.promises.Releases.{accepted-release}
 use Rattle.rules.proofs.promises.Reports.{report-figures, report-lines, accepted-report, report-without-words}
 use Rattle.rules.proofs.promises.Taken.{accepted-grant, freed-room-is-used}
@@ -32,6 +32,7 @@ all-promises =
       counts = accepted-counts;
       bytes = bytes-beside;
       owners = owners-stay;
+      free = free-is-meant;
       put-movable = accepted-put-movable;
       put-fixed = accepted-put-fixed;
       live = live-if-stands;

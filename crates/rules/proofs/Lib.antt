@@ -12,5 +12,6 @@ pub mod Rounding
 pub mod Says
 pub mod ShapeFacts
 pub mod Shapes
+pub mod Targets
 pub mod ledger
 pub mod promises

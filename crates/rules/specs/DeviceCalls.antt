@@ -1,4 +1,4 @@
--- Document 01, "Device calls", with the devices of document 02, request (vii).
+-- Document 01, "Device calls", with the devices of document 02, request (vii). Where the pages of a run go, request (vi), is in Targets.antt.
 use Prim.Native.Nat.{ℕ, zero, suc, _+_, _-_, _^_}
 use mathlib.Core.Bool.{Bool, not, _&&_, _||_}
 use mathlib.Core.List.{List, [], _∷_}
@@ -21,7 +21,7 @@ use Rattle.rules.specs.Record.{areaAt, placeOf}
 use Rattle.rules.specs.Limits.{mostAlignOrder, leastDevice, mostDevice}
 use Rattle.rules.specs.Shape.{shapeWrong}
 use Rattle.rules.specs.Outcomes.{Outcome, outcome, Check, _⇒_, checked}
-use Rattle.rules.specs.PageCalls.{lowestPlace, freeOrdinary}
+use Rattle.rules.specs.Targets.{targets, firstTarget}
 
 -- the first word of area i's bitmap
 abbrev pub bitmapOf : Record → ℕ → ℕ
@@ -56,23 +56,19 @@ isGrantable m t i count alignOrder j =
 unfoldable pub chosen : Record → Tables → ℕ → ℕ → ℕ → Bit
 chosen m t i count alignOrder = bit (lowest (λ j. isGrantable m t i count alignOrder (bit j)) (bitCount (areaAt m i)))
 
--- the movable frames of a run, and the frames that their pages can go to
+-- the movable frames of a run
 unfoldable pub movers : Tables → Place → ℕ → ℕ
 movers t p count = howMany (λ q. hasKind movable (markAt t (place q))) (p .0) count
 
-unfoldable pub targets : Record → Tables → ℕ
-targets m t = howMany (λ q. freeOrdinary m t (place q)) 0 (m .memory .frames)
+-- a movable page of area i goes to the first target, with mark and word
+unfoldable pub movePage : Record → Tables → ℕ → Place → Tables
+movePage m t i p =
+    if hasKind movable (markAt t p) then setPage (setPage t (firstTarget m t i) (markAt t p) (wordAt t p)) p 0 0 else t
 
--- a movable page goes to the lowest free ordinary frame, with mark and word
-unfoldable pub movePage : Record → Tables → Place → Tables
-movePage m t p =
-    if hasKind movable (markAt t p) then
-    setPage (setPage t (lowestPlace m (freeOrdinary m t)) (markAt t p) (wordAt t p)) p 0 0 else t
-
--- the movable pages of a run, ascending. No frame of the run is ordinary, so together they go to the lowest free ordinary frames, ascending
-unfoldable pub moveOut : Record → Tables → Place → ℕ → Tables
-moveOut m t p zero = t
-moveOut m t p (suc d) = moveOut m (movePage m t p) (place (suc (p .0))) d
+-- the movable pages of a run, ascending. No frame of the run is a target, so together they go to the first targets, in their order
+unfoldable pub moveOut : Record → Tables → ℕ → Place → ℕ → Tables
+moveOut m t i p zero = t
+moveOut m t i p (suc d) = moveOut m (movePage m t i p) i (place (suc (p .0))) d
 
 -- the run's marks and words: the first mark has the count, the others are 5, and the words are 0
 abbrev pub markRun : Tables → Place → ℕ → Tables
@@ -82,7 +78,7 @@ markRun t p count = fillPages (setPage t p (markOf count head) 0) (place (suc (p
 unfoldable pub takeRun : Record → Tables → ℕ → ℕ → Bit → ℕ → Tables
 takeRun m t i count j device =
     withOwners
-    (withBitmap (markRun (moveOut m t (placeOfBit m i j) count) (placeOfBit m i j) count)
+    (withBitmap (markRun (moveOut m t i (placeOfBit m i j) count) (placeOfBit m i j) count)
     (setBits (t .bitmap) (bitmapOf m i) (j .0) (bitsFor (areaAt m i) count)))
     (fill (t .owners) (placeOfBit m i j .0) count device)
 
@@ -96,7 +92,7 @@ grantChecks m i count alignOrder device t =
     shapeWrong m t ⇒ 1 ∷
     (isUnknown (m .memory) i || eqb count 0 || ltb mostAlignOrder alignOrder || badDevice device) ⇒ 2 ∷
     leb (bitCount (areaAt m i)) (j .0) ⇒ 7 ∷
-    ltb (targets m t) (movers t (placeOfBit m i j) count) ⇒ 8 ∷
+    ltb (targets m t i) (movers t (placeOfBit m i j) count) ⇒ 8 ∷
     []
 
 unfoldable pub grant : Record → ℕ → ℕ → ℕ → ℕ → Tables → Outcome

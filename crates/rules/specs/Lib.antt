@@ -10,6 +10,7 @@ pub mod PageCalls
 pub mod Record
 pub mod Report
 pub mod Shape
+pub mod Targets
 pub mod ledger
 pub mod promises
 pub mod steps

@@ -3,8 +3,10 @@
 --     many-next                         the range grows by one at its end
 --     many-split                        a range in two parts
 --     many-cong                         it goes by the test's values in the range alone
---     many-le, many-zero                at most the width; none where none passes
-use Prim.Native.Nat.{ℕ, zero, suc, _+_, _≤_, _<_}
+--     many-le, many-zero, many-all      at most the width; none where none passes; the width where each does
+--     many-parts                        those that pass are of two sorts
+--     many-run                          a run of numbers passes one test and not the other, which are the same elsewhere
+use Prim.Native.Nat.{ℕ, zero, suc, _+_, _-_, _≤_, _<_}
 use native.Mathlib.Nat.{add-zero, zero-add, suc-add}
 use native.Mathlib.Omega.{arith}
 use mathlib.Core.Path.{_≡_, refl, sym, ap, _∙_}
@@ -64,3 +66,41 @@ many-cong p q i (suc d) same =
     let here : p i ≡ q i = same i (omega arith) (omega arith) in
     let rest : howMany p (suc i) d ≡ howMany q (suc i) d = many-cong p q (suc i) d (λ k a b. same k (omega arith) (omega arith)) in
     rw (many-suc p i d, many-suc q i d, rest, here)
+
+-- each number that passes p passes one of two others, and no number both of them
+pub many-parts :
+    (p q r : ℕ → Bool) (i d : ℕ) → ((k : ℕ) → i ≤ k → k < i + d → one p k ≡ one q k + one r k) → howMany p i d ≡ howMany q i d + howMany r i d
+many-parts p q r i zero parts = rw (many-none p i, many-none q i, many-none r i) (omega arith)
+many-parts p q r i (suc d) parts =
+    let here : one p i ≡ one q i + one r i = parts i (omega arith) (omega arith) in
+    let rest : howMany p (suc i) d ≡ howMany q (suc i) d + howMany r (suc i) d = many-parts p q r (suc i) d (λ k a b. parts k (omega arith) (omega arith)) in
+    rw (many-suc p i d, many-suc q i d, many-suc r i d) (omega arith)
+
+pub many-all : (p : ℕ → Bool) (i d : ℕ) → ((k : ℕ) → i ≤ k → k < i + d → p k ≡ true) → howMany p i d ≡ d
+many-all p i zero all = many-none p i
+many-all p i (suc d) all =
+    many-pass p i d (all i (omega arith) (omega arith)) ∙ ap suc (many-all p (suc i) d (λ k a b. all k (omega arith) (omega arith)))
+
+-- the run's numbers pass p and not q, and the others pass both or neither
+pub many-run :
+    (p q : ℕ → Bool) (n r c : ℕ) →
+    r + c ≤ n →
+    ((k : ℕ) → r ≤ k → k < r + c → p k ≡ true) →
+    ((k : ℕ) → r ≤ k → k < r + c → q k ≡ false) →
+    ((k : ℕ) → k < n → (r ≤ k → k < r + c → ⊥) → p k ≡ q k) → howMany p 0 n ≡ howMany q 0 n + c
+many-run p q n r c h yes-all no-all others =
+    let width : n ≡ r + (c + (n - (r + c))) = omega arith in
+    let p-parts = many-split p 0 r (c + (n - (r + c))) in
+    let q-parts = many-split q 0 r (c + (n - (r + c))) in
+    let p-rest = many-split p (0 + r) c (n - (r + c)) in
+    let q-rest = many-split q (0 + r) c (n - (r + c)) in
+    let low = many-cong p q 0 r (λ k a b. others k (omega arith) (λ u v. omega arith)) in
+    let high = many-cong p q (0 + r + c) (n - (r + c)) (λ k a b. others k (omega arith) (λ u v. omega arith)) in
+    let p-run = many-all p (0 + r) c (λ k a b. yes-all k (omega arith) (omega arith)) in
+    let q-run = many-zero q (0 + r) c (λ k a b. no-all k (omega arith) (omega arith)) in
+    ap (howMany p 0) width ∙ total p-parts q-parts p-rest q-rest low high p-run q-run ∙ ap (λ (x : ℕ). howMany q 0 x + c) (sym width)
+  where
+    total :
+        {a b a₁ a₂ b₁ b₂ a₃ a₄ b₃ b₄ : ℕ} →
+        a ≡ a₁ + a₂ → b ≡ b₁ + b₂ → a₂ ≡ a₃ + a₄ → b₂ ≡ b₃ + b₄ → a₁ ≡ b₁ → a₄ ≡ b₄ → a₃ ≡ c → b₃ ≡ 0 → a ≡ b + c
+    total e₁ e₂ e₃ e₄ e₅ e₆ e₇ e₈ = omega arith

@@ -3,7 +3,8 @@
 //! fixed SEED CALLS` the same with the first of them fixed near the lowest frames,
 //! `day pins GRANTS` and the same with `dense`, `bits` or `aligned` those of
 //! grants that find no run, `day between PUTS` those of puts past areas that stand
-//! between ordinary frames.
+//! between ordinary frames, `day moves TIMES` those of 1,000 pages that go from one
+//! area to sixty others and back.
 
 use std::env;
 use std::io::{self, Write};
@@ -20,6 +21,7 @@ fn records(words: &[&str]) -> Option<Vec<u8>> {
         ["bits"] => searches::past_set_bits(2, 0, number),
         ["aligned"] => searches::past_set_bits(4, 2, number),
         ["between"] => searches::past_many_areas(number),
+        ["moves"] => searches::moves_between_areas(number),
         ["areas", seed] => day::records_of_many_areas(seed.parse().ok()?, number),
         ["fixed", seed] => day::records_of_a_fixed_area(seed.parse().ok()?, number),
         [seed] => day::records(seed.parse().ok()?, number),
@@ -32,7 +34,7 @@ fn main() -> ExitCode {
     let words: Vec<&str> = words.iter().map(String::as_str).collect();
     let Some(records) = records(&words) else {
         eprintln!("day: say a seed and a number of calls, with `areas` or `fixed` before them or not, or `pins`, `dense`,");
-        eprintln!("     `bits` or `aligned` and a number of grants, or `between` and one of puts");
+        eprintln!("     `bits` or `aligned` and a number of grants, `between` and one of puts, or `moves` and one of times");
         return ExitCode::FAILURE;
     };
     match io::stdout().write_all(&records) {

@@ -81,8 +81,8 @@ place-of-requires c κs = search needs
 count-movable-requires : tie.Need-count-movable-requires
 count-movable-requires c κs = search needs
 
-has-free-ordinary-requires : tie.Need-has-free-ordinary-requires
-has-free-ordinary-requires c κs = search needs
+has-free-outside-requires : tie.Need-has-free-outside-requires
+has-free-outside-requires c κs = search needs
 
 refused-requires-2 : tie.Need-refused-requires-2
 refused-requires-2 c κs = search needs
@@ -99,7 +99,7 @@ returns-2 c =
     let x = s .args in
     returns-it {t = lent s} (c .refused2 .ensures)
     (nowhere (machine s) (x .area) (x .count) (x .align) (x .device) (lent s) (s .pre) (c .before .before .before .before .before .before .before .before .before .before .find-run .ensures) (is-found (c .before .before .before .before .before .before .before .before)) (placed (c .before .before .before .before .before .before))
-    (c .before .before .before .before .count-movable .ensures) (c .before .before .has-free-ordinary .ensures) (not-true _ (c .before .if2 .taken)))
+    (c .before .before .before .before .count-movable .ensures) (c .before .before .before .before .before .before .before .before .before .before .before .before .before .area-at .ensures) (c .before .before .has-free-outside .ensures) (not-true _ (c .before .if2 .taken)))
 
 -- the device's number fits
 cast-take-run : tie.Need-cast-take-run
@@ -131,9 +131,9 @@ returns-3 c =
     let x = s .args in
     returns-it (c .done .ensures)
     (granted (machine s) (x .area) (x .count) (x .align) (x .device) (lent s) (s .pre) (c .before .before .before .before .before .before .before .before .before .before .before .before .before .before .before .before .before .before .before .before .before .before .before .find-run .ensures) (is-found (c .before .before .before .before .before .before .before .before .before .before .before .before .before .before .before .before .before .before .before .before .before)) (placed (c .before .before .before .before .before .before .before .before .before .before .before .before .before .before .before .before .before .before .before))
-    (c .before .before .before .before .before .before .before .before .before .before .before .before .before .before .before .before .before .count-movable .ensures) (c .before .before .before .before .before .before .before .before .before .before .before .before .before .before .before .has-free-ordinary .ensures) (not-false _ (c .before .before .before .before .before .before .before .before .before .before .before .before .before .before .if2 .left)) (first-frame (c .before .before .before .before .before .before .before .before .before .before .before .before .before .before .before .before .before .before .before .before)) (c .before .before .before .before .before .before .before .before .before .take-run .ensures))
+    (c .before .before .before .before .before .before .before .before .before .before .before .before .before .before .before .before .before .count-movable .ensures) (c .before .before .before .before .before .before .before .before .before .before .before .before .before .before .before .before .before .before .before .before .before .before .before .before .before .before .area-at .ensures) (c .before .before .before .before .before .before .before .before .before .before .before .before .before .before .before .has-free-outside .ensures) (not-false _ (c .before .before .before .before .before .before .before .before .before .before .before .before .before .before .if2 .left)) (first-frame (c .before .before .before .before .before .before .before .before .before .before .before .before .before .before .before .before .before .before .before .before)) (c .before .before .before .before .before .before .before .before .before .take-run .ensures))
 
 pub grant-lowest-spec : {M : Type 1} → statement M
 grant-lowest-spec =
     tie.close
-    (tie.spec area-at-requires find-run-requires bits-requires refused-requires same-length same-length-2 returns frame-of-bit-requires place-of-requires count-movable-requires has-free-ordinary-requires refused-requires-2 same-length-3 same-length-4 returns-2 cast-take-run take-run-requires done-requires same-length-5 same-length-6 same-length-7 same-length-8 returns-3)
+    (tie.spec area-at-requires find-run-requires bits-requires refused-requires same-length same-length-2 returns frame-of-bit-requires place-of-requires count-movable-requires has-free-outside-requires refused-requires-2 same-length-3 same-length-4 returns-2 cast-take-run take-run-requires done-requires same-length-5 same-length-6 same-length-7 same-length-8 returns-3)

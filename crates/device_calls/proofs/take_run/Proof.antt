@@ -1,8 +1,8 @@
 -- `device_calls::take_run` meets its contract: what its steps leave is what the definition does. Assumes nothing.
 use borrow.Author.Needs.{needs}
-use Prim.Native.Nat.{_-_}
+use Prim.Native.Nat.{ℕ, _-_}
 use native.Mathlib.Omega.{arith}
-use mathlib.Core.Path.{_≡_, ap, _∙_}
+use mathlib.Core.Path.{_≡_, sym, ap, subst, _∙_}
 use Rattle.frames.specs.declared.Area.{Area}
 use Rattle.frames.specs.declared.Frame.{Frame}
 use Rattle.frames.specs.declared.Place.{Place}
@@ -12,6 +12,7 @@ use Rattle.frames.specs.Tables.{Tables, tables}
 use Rattle.rules.specs.declared.Record.{Record}
 use Rattle.rules.specs.Does.{recordWith}
 use Rattle.rules.specs.DeviceCalls.{placeOfBit}
+use Rattle.device_calls.specs.steps.DeviceSteps.{LeavesArea}
 use Rattle.device_calls.proofs.GrantOutcomes.{taken, RunKnown, run-known}
 use Rattle.device_calls.proofs.take_run.Statement.{statement}
 use Rattle.device_calls.proofs.take_run.Tie as tie
@@ -52,9 +53,10 @@ bits-for-requires c κs = search needs
 
 move-out-requires : tie.Need-move-out-requires
 move-out-requires c κs =
-    let k = has (c .before .before .before .before .before .before .before .before .before .before .before .before) in
+    let s = c .before .before .before .before .before .before .before .before .before .before .before .before in
+    let k = has s in
     let n = ap (λ (q : Place). q .0) (placed (c .before .before .before)) in
-    (k .declared-high, omega (arith, n, k .end-high), k .marks-length, k .words-length, λ q u v. k .held q (omega (arith, n)) (omega (arith, n)))
+    (subst (λ (q : ℕ). LeavesArea (machine s) (s .args .area) q (s .args .count)) (sym n) (k .leaves), k .marks-length, k .words-length)
 
 mark-run-requires : tie.Need-mark-run-requires
 mark-run-requires c κs =
@@ -63,8 +65,8 @@ mark-run-requires c κs =
     let some = c .before .before .before .before .before .before .before .before .before .before .before .before .before .before .before .before .before .before .before .pre .positive in (
       some,
       k .count-high,
-      omega (arith, n, some, k .end-high, k .marks-length, c .before .before .before .before .before .marks .given),
-      omega (arith, n, some, k .end-high, k .words-length, c .before .before .before .words .given),
+      omega (arith, n, some, k .leaves .room, k .marks-length, c .before .before .before .before .before .marks .given),
+      omega (arith, n, some, k .leaves .room, k .words-length, c .before .before .before .words .given),
     )
 
 set-run-requires : tie.Need-set-run-requires

@@ -10,7 +10,7 @@ use Rattle.frames.specs.declared.Area.{Area}
 use Rattle.frames.specs.declared.Bit.{Bit}
 use Rattle.frames.specs.declared.Frame.{Frame}
 use Rattle.frames.specs.declared.Place.{Place}
-use Rattle.frames.specs.Units.{bit, mostNumber}
+use Rattle.frames.specs.Units.{place, bit, mostNumber}
 use Rattle.frames.specs.Marks.{canLeave}
 use Rattle.frames.specs.Areas.{isMultiple, endOf, perBit, frameOfBit, bitsFor}
 use Rattle.frames.specs.Scans.{marked}
@@ -19,9 +19,11 @@ use Rattle.rules.specs.declared.Record.{Record}
 use Rattle.device_calls.specs.declared.runs.Wanted.{Wanted}
 use Rattle.device_calls.specs.declared.runs.Tried.{Tried}
 use Rattle.rules.specs.Record.{areaAt}
-use Rattle.rules.specs.Limits.{mostFrames, mostEnd, mostBlockOrder, mostAlignOrder}
+use Rattle.rules.specs.Limits.{mostAreas, mostFrames, mostEnd, mostBlockOrder, mostAlignOrder}
 use Rattle.rules.specs.Shape.{shapeRight}
+use Rattle.rules.specs.Targets.{inAreaAt}
 use Rattle.rules.specs.DeviceCalls.{bitmapOf, isUnknown, outsideArea}
+use Rattle.rules.specs.promises.Shapes.{InArea}
 
 -- a bit's first frame is a multiple of 2^align
 abbrev pub isAligned : Area → ℕ → ℕ → Bool
@@ -109,6 +111,14 @@ pub record Tries (marks bitmap : List ℕ) (base : Frame) (w : Wanted) (j : ℕ)
 -- the page at place p stands at place q instead
 abbrev pub pageMoved : Tables → Place → Place → Tables
 pageMoved t p q = setPage (setPage t q (markAt t p) (wordAt t p)) p 0 0
+
+-- the `count` frames from place p on are frames of area i, which is declared and shares none with another
+pub record LeavesArea (m : Record) (i p count : ℕ) : Type 0 where
+  pub known : i < m .memory .declared
+  pub few : m .memory .declared ≤ mostAreas
+  pub room : p + count ≤ m .memory .frames
+  pub held : (k : ℕ) → p ≤ k → k < p + count → inAreaAt m i (place k) ≡ true
+  pub apart : (f j : ℕ) → InArea m f i → InArea m f j → i ≡ j
 
 -- the `count` frames from f on are some, and lie in area i, which is declared
 pub record RangeFits (m : Record) (t : Tables) (i : ℕ) (f : Frame) (count : ℕ) : Type 0 where

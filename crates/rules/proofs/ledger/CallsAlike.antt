@@ -30,7 +30,8 @@ use Rattle.rules.specs.Shape.{shapeWrong}
 use Rattle.rules.specs.Outcomes.{Outcome, outcome, Check, _⇒_, refuse, checked, Passed}
 use Rattle.rules.specs.PageCalls.{pageAt, isLive, freeOrdinary, freeInArea, putAt}
 use Rattle.rules.specs.PageCalls as Page
-use Rattle.rules.specs.DeviceCalls.{placeOfBit, isCandidate, isGrantable, chosen, movers, targets, movePage, moveOut, markRun, takeRun, laterFrames, freeRun}
+use Rattle.rules.specs.Targets.{isTarget, targets, firstTarget}
+use Rattle.rules.specs.DeviceCalls.{placeOfBit, isCandidate, isGrantable, chosen, movers, movePage, moveOut, markRun, takeRun, laterFrames, freeRun}
 use Rattle.rules.specs.DeviceCalls as Device
 use Rattle.rules.specs.Declare as Declare
 use Rattle.rules.specs.Boot.{zeroTables, bootRecord, booted}
@@ -40,6 +41,7 @@ use Rattle.rules.specs.Calls.{perform}
 use Rattle.rules.specs.ledger.Roles.{roleOf}
 use Rattle.rules.specs.ledger.Lists.{isRefused, SameCall, same, otherWord, otherBuffer, withoutWord, seenAnswer}
 use Rattle.rules.proofs.ledger.Marks.{page-of, page-field, page-named, mark-kind, mark-field, granted-page}
+use Rattle.rules.proofs.Targets.{first-same}
 use Rattle.rules.proofs.EachCall.{otherWords, shapeFirst, each-twice}
 use Rattle.rules.proofs.ShapeFacts.{shape-lengths}
 use Rattle.rules.proofs.promises.Boots.{record-lengths}
@@ -258,26 +260,26 @@ module _ (hides : ℕ → Bool) (m : Record) (t : Tables) (words : List ℕ) (s 
       checks-alike (Call.Declare r) (Call.Declare r) (λ _. refl) _ _ _
       (λ passed. record { machine = refl; answer = refl; left = to-alike hides _ words (others-alike hides t words _ (t .owners) s) })
 
-  move-alike : (p : ℕ) → Alike hides (movePage m t (place p)) (movePage m t′ (place p))
-  unfolding movePage freeOrdinary
-  move-alike p =
+  move-alike : (i p : ℕ) → Alike hides (movePage m t i (place p)) (movePage m t′ i (place p))
+  unfolding movePage
+  move-alike i p =
       by-cases (hasKind movable (markAt t (place p)))
       (λ y.
-      let q = Page.lowestPlace m (freeOrdinary m t) .0 in
+      let q = firstTarget m t i .0 in
       let mark = markAt t (place p) in
       let word = wordAt t (place p) in
       let word′ = wordAt t′ (place p) in
-      rw y
+      rw (y, first-same m i t t′ refl)
       (to-alike hides (setPage (setPage t (place q) mark word) (place p) 0 0) (set (set words q word′) p 0)
       (set-alike hides (setPage t (place q) mark word) (set words q word′) p 0 0 0 (set-alike hides t words q mark word word′ s (s .same p)) (λ _. refl))))
       (λ n. rw n (to-alike hides t words s))
 
-move-out-alike : (hides : ℕ → Bool) (m : Record) (d p : ℕ) (t t′ : Tables) → Alike hides t t′ → Alike hides (moveOut m t (place p) d) (moveOut m t′ (place p) d)
+move-out-alike : (hides : ℕ → Bool) (m : Record) (i d p : ℕ) (t t′ : Tables) → Alike hides t t′ → Alike hides (moveOut m t i (place p) d) (moveOut m t′ i (place p) d)
 unfolding moveOut
-move-out-alike hides m zero p t t′ a = a
-move-out-alike hides m (suc d) p t t′ a =
-    alike-words hides t t′ (λ x. Alike hides (moveOut m (movePage m t (place p)) (place (suc p)) d) (moveOut m (movePage m x (place p)) (place (suc p)) d)) a
-    (λ words s. move-out-alike hides m d (suc p) (movePage m t (place p)) (movePage m (otherWords t words) (place p)) (move-alike hides m t words s p))
+move-out-alike hides m i zero p t t′ a = a
+move-out-alike hides m i (suc d) p t t′ a =
+    alike-words hides t t′ (λ x. Alike hides (moveOut m (movePage m t i (place p)) i (place (suc p)) d) (moveOut m (movePage m x i (place p)) i (place (suc p)) d)) a
+    (λ words s. move-out-alike hides m i d (suc p) (movePage m t i (place p)) (movePage m (otherWords t words) i (place p)) (move-alike hides m t words s i p))
 
 -- a run that is marked, beside some bitmap and owners
 abbrev markedWith : Tables → ℕ → ℕ → List ℕ → List ℕ → Tables
@@ -308,7 +310,7 @@ module _ (hides : ℕ → Bool) (m : Record) (t : Tables) (words : List ℕ) (s 
       (i count alignOrder device : ℕ) →
       let c = Call.Grant i count alignOrder device in
       SeenAlike hides c c (Device.grant m i count alignOrder device t) (Device.grant m i count alignOrder device (otherWords t words))
-  unfolding Device.grant chosen isGrantable isCandidate movers targets freeOrdinary takeRun
+  unfolding Device.grant chosen isGrantable isCandidate movers targets isTarget takeRun
   grant-alike i count alignOrder device =
       let c = Call.Grant i count alignOrder device in
       let p = placeOfBit m i (chosen m t i count alignOrder) .0 in
@@ -318,8 +320,8 @@ module _ (hides : ℕ → Bool) (m : Record) (t : Tables) (words : List ℕ) (s 
         machine = refl;
         answer = refl;
         left =
-            mark-run-alike hides p count (moveOut m t (place p) count) (moveOut m (otherWords t words) (place p) count) _ _
-            (move-out-alike hides m count p t (otherWords t words) (to-alike hides t words s));
+            mark-run-alike hides p count (moveOut m t i (place p) count) (moveOut m (otherWords t words) i (place p) count) _ _
+            (move-out-alike hides m i count p t (otherWords t words) (to-alike hides t words s));
       })
 
   report-alike : (bytes : List ℕ) → SeenAlike hides Call.Report Call.Report (report m bytes t) (report m bytes (otherWords t words))

@@ -1,4 +1,4 @@
--- What the invariant says of a state: parts (1) to (5) of demand 3, of which (2) says more of the list. Assumes nothing.
+-- What the invariant says of a state: parts (1) to (5) and (7) of demand 3, of which (2) says more of the list. Assumes nothing.
 use Prim.Native.Nat.{ℕ, _+_, _-_, _≤_, _<_}
 use native.Mathlib.Omega.{arith}
 use mathlib.Core.Bool.{Bool, true, false, not, _&&_, _||_}
@@ -11,16 +11,17 @@ use Rattle.search.proofs.Bools.{by-cases, below-or-not, clash, or-neither, or-l
 use Rattle.answer.specs.Answers.{done}
 use Rattle.frames.specs.declared.Frame.{Frame}
 use Rattle.frames.specs.Units.{frame, place}
-use Rattle.frames.specs.Marks.{kindOf, markOf, hasKind, isPageOf, isGranted, pinned, later}
+use Rattle.frames.specs.Marks.{kindOf, markOf, hasKind, isPageOf, isGranted, pinned, fixed, later}
 use Rattle.frames.specs.Tables.{Tables, markAt, wordAt, ownerAt}
 use Rattle.rules.specs.declared.Record.{Record}
-use Rattle.rules.specs.Record.{placeOf, frameAt, endFrame}
+use Rattle.rules.specs.Record.{placeOf, frameAt, isOrdinary, endFrame}
 use Rattle.rules.specs.Outcomes.{Outcome, outcome, checked, Passed, here, there}
 use Rattle.rules.specs.PageCalls.{pageAt, isLive, readPage}
 use Rattle.rules.specs.DeviceCalls.{badDevice, outsideMemory, deviceChecks, deviceStore, deviceRead, release}
 use Rattle.rules.specs.ledger.Ledger.{grantsAt}
 use Rattle.rules.specs.ledger.Lists.{State, isRefused}
-use Rattle.rules.specs.ledger.Statement.{isLiveFrame, deviceOf, markOfPage, ReadsRight, PinsRight, GrantsRight, DeviceWordsRight, OwnersRight}
+use Rattle.rules.specs.ledger.Statement.{isLiveFrame, deviceOf, markOfPage, ReadsRight, PinsRight, GrantsRight, DeviceWordsRight, OwnersRight, FixedOutside}
+use Rattle.rules.proofs.AreaRight.{in-area}
 use Rattle.rules.proofs.Checks.{checked-cases, checked-first, checked-passed}
 use Rattle.rules.proofs.ledger.Marks.{has-kind, kind-has, page-field}
 use Rattle.rules.proofs.ledger.Names.{live-is}
@@ -287,4 +288,12 @@ module _ (s : State) (sound : SoundState s) where
         none = λ p h e. sound .owners p h .none (sym (marked-live (isGranted (markAt t (place p))) (grantsAt (s .ledger .grants) (frameAt m (place p))) (sound .covered p h)) ∙ e);
         stores = λ f word device. owner-only f device _ refl;
         releases = λ i f count device other. release-refused i f count device other;
+      }
+
+  -- ---- (7) fixed pages
+  pub fixed-outside : FixedOutside s
+  fixed-outside =
+      record {
+        outside = λ p i h e w.
+            clash (isOrdinary m (place p)) (sound .places p h .ordinary (eq-eqb (kindOf (markAt t (place p))) fixed e)) (in-area m i p (w .declared) (w .low) (w .high));
       }

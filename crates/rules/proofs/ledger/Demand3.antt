@@ -22,7 +22,7 @@ use Rattle.rules.specs.ledger.Statement.{Boot, outcomeOfBoot, startOfBoo
 use Rattle.rules.proofs.promises.Boots.{zero-lengths, record-lengths}
 use Rattle.rules.proofs.ledger.BootCall.{Fine, boot-fine, boot-sound}
 use Rattle.rules.proofs.ledger.Histories.{SoundState, list-sound, list-pins}
-use Rattle.rules.proofs.ledger.Conclusions.{reads-right, pins-right, grants-right, device-words-right, owners-right}
+use Rattle.rules.proofs.ledger.Conclusions.{reads-right, pins-right, grants-right, device-words-right, owners-right, fixed-outside}
 use Rattle.rules.proofs.ledger.CallsAlike.{zero-alike}
 use Rattle.rules.proofs.ledger.Counting.{Small, counters-right}
 use Rattle.rules.proofs.ledger.TwoRuns.{StatesAlike, lists-agree}
@@ -91,6 +91,7 @@ theorem b items accepted ok =
       deviceWords = device-words-right (after (startOfBoot b) items) sound;
       owners = owners-right (after (startOfBoot b) items) sound;
       counters = counters-right (startOfBoot b) items (start-small b accepted) ok;
+      fixed = fixed-outside (after (startOfBoot b) items) sound;
       runs = λ c same.
           record {
             agree = λ chosen items′ list.

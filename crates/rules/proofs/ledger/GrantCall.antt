@@ -24,16 +24,18 @@ use Rattle.rules.specs.Record.{areaAt}
 use Rattle.rules.specs.Limits.{mostAlignOrder}
 use Rattle.rules.specs.Shape.{shapeRight}
 use Rattle.rules.specs.PageCalls.{pageAt}
-use Rattle.rules.specs.DeviceCalls.{isUnknown, badDevice, bitmapOf, placeOfBit, isCandidate, isGrantable, chosen, movers, targets, moveOut, markRun, takeRun}
+use Rattle.rules.specs.DeviceCalls.{isUnknown, badDevice, bitmapOf, placeOfBit, isCandidate, isGrantable, chosen, movers, moveOut, markRun, takeRun}
 use Rattle.rules.specs.DeviceCalls as Device
+use Rattle.rules.specs.Targets.{targets}
 use Rattle.rules.proofs.Shapes.{shape-known}
 use Rattle.rules.specs.ledger.Ledger.{Grant, Ledger, grantOf, withGrant}
 use Rattle.rules.specs.steps.Invariant.{GrantInArea, BitsSound, Sound}
 use Rattle.rules.proofs.Checks.{checked-cases}
 use Rattle.rules.proofs.ledger.Marks.{isPage, page-of}
+use Rattle.frames.proofs.AreaFacts.{holds-yes}
 use Rattle.frames.proofs.FillFacts.{length-fill}
 use Rattle.rules.proofs.ShapeFacts.{shape-lengths}
-use Rattle.rules.proofs.AreaRight.{AreaFacts, area-facts, in-area}
+use Rattle.rules.proofs.AreaRight.{AreaFacts, area-facts}
 use Rattle.bitmap.proofs.Runs.{change-length}
 use Rattle.bitmap.proofs.Word.{setting}
 use Rattle.rules.proofs.ledger.BitsSound.{bits-run, run-granted}
@@ -78,7 +80,7 @@ module _ (m : Record) (t : Tables) (l : Ledger) (s : Sound m t l) (i count devic
         leave = λ q a b. every-all (λ q. canLeave (markAt t (place q))) (placeOfBit m i (bit j) .0) count (and-right (isCandidate m t i count alignOrder (bit j)) every-leave pass) q a b;
       }
 
-  module _ (j : ℕ) (ok : Grantable m t i count device j) (enough : movers t (placeOfBit m i (bit j)) count ≤ targets m t) where
+  module _ (j : ℕ) (ok : Grantable m t i count device j) (enough : movers t (placeOfBit m i (bit j)) count ≤ targets m t i) where
     abbrev r : ℕ
     r = placeOfBit m i (bit j) .0
 
@@ -94,8 +96,8 @@ module _ (m : Record) (t : Tables) (l : Ledger) (s : Sound m t l) (i count devic
     in-memory : r + count ≤ m .memory .frames
     in-memory = let low = area .low in let high = area .high in let e = ends in let some = ok .some in omega arith
 
-    can-empty : CanEmpty m t r count
-    unfolding movers targets
+    can-empty : CanEmpty m i t r count
+    unfolding movers
     can-empty =
         record {
           inside = in-memory;
@@ -103,15 +105,15 @@ module _ (m : Record) (t : Tables) (l : Ledger) (s : Sound m t l) (i count devic
           area = λ q u v.
               let low = area .low in
               let e = ends in
-              in-area m i q (ok .declared) (omega arith) (omega arith);
+              holds-yes a (m .memory .base .0 + q) (omega arith) (omega arith);
           room = enough;
         }
 
     abbrev t₁ : Tables
-    t₁ = moveOut m t (place r) count
+    t₁ = moveOut m t i (place r) count
 
-    out : Emptied m t t₁ l r count
-    out = move-out m l count r t s can-empty
+    out : Emptied m i t t₁ l r count
+    out = move-out m i (ok .declared) l count r t s can-empty
 
     abbrev t₂ : Tables
     t₂ =
@@ -195,6 +197,6 @@ module _ (m : Record) (t : Tables) (l : Ledger) (s : Sound m t l) (i count devic
       (λ passed.
       let j : ℕ = chosen m t i count alignOrder .0 in
       let ok : Grantable m t i count device j = grantable alignOrder (passed .1 .0) (passed .1 .1 .0) in
-      let enough : movers t (placeOfBit m i (bit j)) count ≤ targets m t = ltb-false (targets m t) (movers t (placeOfBit m i (bit j)) count) (passed .1 .1 .1 .0) in
+      let enough : movers t (placeOfBit m i (bit j)) count ≤ targets m t i = ltb-false (targets m t i) (movers t (placeOfBit m i (bit j)) count) (passed .1 .1 .1 .0) in
       done-kept (Call.Grant i count alignOrder device) m t (t₂ j ok enough) l (after j ok enough) (answered j ok enough) (movers t (placeOfBit m i (bit j)) count) refl
       (granted j ok enough) (λ x a b. (b, granted-stays j ok enough x b)))

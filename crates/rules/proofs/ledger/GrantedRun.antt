@@ -14,6 +14,7 @@ use lib.Pow.{pow-pos}
 use Rattle.search.specs.Choice.{if_then_else_}
 use Rattle.search.specs.Search.{howMany}
 use Rattle.search.proofs.Bools.{by-cases, below-or-not, clash}
+use Rattle.search.proofs.Counts.{many-run}
 use Rattle.frames.specs.declared.Area.{Area}
 use Rattle.frames.specs.Units.{frame, place}
 use Rattle.frames.specs.Marks.{markOf, hasKind, isGranted, head, later}
@@ -32,7 +33,7 @@ use Rattle.rules.proofs.Divisions.{up-low}
 use Rattle.rules.proofs.promises.Changes.{filled-owners}
 use Rattle.rules.proofs.ledger.FrameRuns.{RunChange, in-run-or-not}
 use Rattle.rules.proofs.ledger.Names.{PagesKept, names-kept}
-use Rattle.rules.proofs.ledger.Grants.{one, takes-low, takes-high, low-takes, at-cons, among-cons, same-grant, many-run, head-granted, granted-mark, grant-moved}
+use Rattle.rules.proofs.ledger.Grants.{one, takes-low, takes-high, low-takes, at-cons, among-cons, same-grant, head-granted, granted-mark, grant-moved}
 
 -- a run of bits inside an area is a run of frames inside it
 pub run-inside : (a : Area) (j count : ℕ) → j + bitsFor a count ≤ bitCount a → a .base .0 + j * perBit a + count ≤ endOf a

@@ -2,9 +2,8 @@
 --     takes-low, takes-high, low-takes     a frame of a grant
 --     among-at, at-among       a grant of a list takes its frames; a frame that is taken is some grant's
 --     without-at, without-among            a list without one of its grants
---     many-all, many-run       counts: each passes; a run of numbers passes now and did not before
 --     GrantsKept               no granted mark changes; `granted-same`, `grant-kept`, `total-kept`: so the grants stand
-use Prim.Native.Nat.{ℕ, zero, suc, _+_, _-_, _≤_, _<_}
+use Prim.Native.Nat.{ℕ, _+_, _-_, _≤_, _<_}
 use native.Mathlib.Omega.{arith}
 use mathlib.Core.Bool.{Bool, true, false, _||_}
 use mathlib.Core.List.{List, [], _∷_}
@@ -14,7 +13,7 @@ use borrow.Author.Tests.{leb-true, ltb-true, ltb-false, le-leb, lt-ltb, eqb-true
 use Rattle.search.specs.Choice.{if_then_else_}
 use Rattle.search.specs.Search.{howMany}
 use Rattle.search.proofs.Bools.{by-cases, clash, and-left, and-right, and-both, or-true-right}
-use Rattle.search.proofs.Counts.{many-none, many-pass, many-split, many-cong, many-zero}
+use Rattle.search.proofs.Counts.{many-cong}
 use Rattle.frames.specs.declared.Frame.{Frame}
 use Rattle.frames.specs.Units.{frame, place}
 use Rattle.frames.specs.Marks.{markOf, isGranted, head}
@@ -127,37 +126,6 @@ without-among (k ∷ ks) g h e =
     (λ d.
     let rest : isAmong (without ks g) h ≡ true = sym (ap (λ (b : Bool). b || isAmong (without ks g) h) d) ∙ sym (among-cons k (without ks g) h) ∙ outer in
     among-cons k ks h ∙ ap (λ (b : Bool). sameGrant k h || b) (without-among ks g h rest) ∙ or-true-right (sameGrant k h)))
-
--- ---- counts
-
-pub many-all : (p : ℕ → Bool) (i d : ℕ) → ((k : ℕ) → i ≤ k → k < i + d → p k ≡ true) → howMany p i d ≡ d
-many-all p i zero all = many-none p i
-many-all p i (suc d) all =
-    many-pass p i d (all i (omega arith) (omega arith)) ∙ ap suc (many-all p (suc i) d (λ k a b. all k (omega arith) (omega arith)))
-
--- the run's numbers pass p and not q, and the others pass both or neither
-pub many-run :
-    (p q : ℕ → Bool) (n r c : ℕ) →
-    r + c ≤ n →
-    ((k : ℕ) → r ≤ k → k < r + c → p k ≡ true) →
-    ((k : ℕ) → r ≤ k → k < r + c → q k ≡ false) →
-    ((k : ℕ) → k < n → (r ≤ k → k < r + c → ⊥) → p k ≡ q k) → howMany p 0 n ≡ howMany q 0 n + c
-many-run p q n r c h yes-all no-all others =
-    let width : n ≡ r + (c + (n - (r + c))) = omega arith in
-    let p-parts = many-split p 0 r (c + (n - (r + c))) in
-    let q-parts = many-split q 0 r (c + (n - (r + c))) in
-    let p-rest = many-split p (0 + r) c (n - (r + c)) in
-    let q-rest = many-split q (0 + r) c (n - (r + c)) in
-    let low = many-cong p q 0 r (λ k a b. others k (omega arith) (λ u v. omega arith)) in
-    let high = many-cong p q (0 + r + c) (n - (r + c)) (λ k a b. others k (omega arith) (λ u v. omega arith)) in
-    let p-run = many-all p (0 + r) c (λ k a b. yes-all k (omega arith) (omega arith)) in
-    let q-run = many-zero q (0 + r) c (λ k a b. no-all k (omega arith) (omega arith)) in
-    ap (howMany p 0) width ∙ total p-parts q-parts p-rest q-rest low high p-run q-run ∙ ap (λ (x : ℕ). howMany q 0 x + c) (sym width)
-  where
-    total :
-        {a b a₁ a₂ b₁ b₂ a₃ a₄ b₃ b₄ : ℕ} →
-        a ≡ a₁ + a₂ → b ≡ b₁ + b₂ → a₂ ≡ a₃ + a₄ → b₂ ≡ b₃ + b₄ → a₁ ≡ b₁ → a₄ ≡ b₄ → a₃ ≡ c → b₃ ≡ 0 → a ≡ b + c
-    total e₁ e₂ e₃ e₄ e₅ e₆ e₇ e₈ = omega arith
 
 -- ---- no granted mark changes
 

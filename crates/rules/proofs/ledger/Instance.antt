@@ -1,5 +1,5 @@
 -- The theorem at one boot and one list: its hypotheses hold there, and what it says is computed. Assumes nothing.
-use Prim.Native.Nat.{ℕ, _<_}
+use Prim.Native.Nat.{ℕ, _+_, _<_}
 use mathlib.Core.Bool.{Bool, true, false, not, _&&_}
 use lib.Dec.{eqb}
 use mathlib.Core.List.{List, [], _∷_, _++_, map, flatMap}
@@ -10,11 +10,11 @@ use mathlib.Core.Path.{_≡_, refl, ap, subst, _∙_}
 use Rattle.answer.specs.Answers.{done, refused, refusedAt}
 use Rattle.search.specs.Search.{lowestFrom, lowest, some, every, howMany, highestFrom, stretch, longest}
 use Rattle.bitmap.specs.Bits.{isClear, changeBit, changeBits}
-use Rattle.frames.specs.Units.{frame}
+use Rattle.frames.specs.Units.{frame, place}
 use Rattle.rules.specs.Record.{placeOf}
 use Rattle.frames.specs.Areas.{inAreas, firstWord}
-use Rattle.frames.specs.Marks.{kindOf, markOf, pinned}
-use Rattle.frames.specs.Tables.{ownerAt, fill}
+use Rattle.frames.specs.Marks.{kindOf, markOf, pinned, fixed}
+use Rattle.frames.specs.Tables.{markAt, ownerAt, fill}
 use Rattle.text.specs.Bytes.{digitOf, unitOf, isNameByte}
 use Rattle.text.specs.Names.{nameLength, sameBytes}
 use Rattle.text.specs.Numbers.{digitsEnd, digitsValue, digits, number}
@@ -24,11 +24,13 @@ use Rattle.regions.specs.Text.{isNamed, region, regionsFrom, regions}
 use Rattle.rules.specs.Shape.{memoryRight, lengthsRight, areaRight, areaFits, shapeRight}
 use Rattle.rules.specs.Outcomes.{checked}
 use Rattle.rules.specs.PageCalls.{pageAt, freeOrdinary, freeInArea, putAt, putPage, dropPage, changeKind, storePage, readPage}
-use Rattle.rules.specs.DeviceCalls.{isCandidate, isGrantable, chosen, movers, targets, movePage, moveOut, takeRun, grant, laterFrames, freeRun, release, deviceStore, deviceRead}
+use Rattle.rules.specs.DeviceCalls.{isCandidate, isGrantable, chosen, movers, movePage, moveOut, takeRun, grant, laterFrames, freeRun, release, deviceStore, deviceRead}
+use Rattle.rules.specs.Targets.{isTarget, targets, firstTarget}
 use Rattle.rules.specs.Counters.{counters, afterGrant, since}
 use Rattle.rules.specs.Report.{usedOf, maxChunk, sumOver, amountLine, areaLine, linesOver, reportOf, report, reported}
 use Rattle.rules.specs.Declare.{alignmentFor, baseFor, sizeFor, limitFor, isVacant, fitsAt, highestFit, declare}
 use Rattle.rules.specs.Boot.{declareAll, bootRecord, boot}
+use Rattle.rules.specs.promises.Shapes.{InArea}
 use Rattle.rules.specs.ledger.Ledger.{grantOf, grantsAt, without, update}
 use Rattle.rules.specs.ledger.Lists.{Item, State, isRefused, next, after, admitted, frameOfPage, lastPinFrame, grantsAnswered, isDone, SameList, same, otherWord, otherBuffer, none, more, seen, Seen}
 use Rattle.rules.specs.ledger.Statement.{pageRead, frameRead, frameRelease, markOfPage, isGrantedPlace, isLiveFrame, deviceOf, outcomeOfBoot, startOfBoot, Demand3}
@@ -60,6 +62,7 @@ record Computed : Type 0 where
       done 0 0 ∷
       done 0 0 ∷
       done 0 0 ∷
+      done 12 0 ∷
       -- stored
       done 0 0 ∷
       refused 5 ∷
@@ -98,15 +101,18 @@ record Computed : Type 0 where
       -- granted
       done 0 0 ∷
       done 0 0 ∷
-      done 9 1 ∷
-      done 12 0 ∷
-      done 0 0 ∷
-      refused 15 ∷
       done 0 0 ∷
       refused 9 ∷
       refused 15 ∷
       done 0 0 ∷
-      done 5 77 ∷
+      done 5 0 ∷
+      done 9 1 ∷
+      done 12 77 ∷
+      done 12 1 ∷
+      done 0 0 ∷
+      refused 15 ∷
+      done 0 0 ∷
+      done 10 77 ∷
       done 6 33 ∷
       refused 15 ∷
       done 55 0 ∷
@@ -125,13 +131,14 @@ record Computed : Type 0 where
       -- area 1 4 0 4
       97 ∷ 114 ∷ 101 ∷ 97 ∷ 32 ∷ 49 ∷ 32 ∷ 52 ∷ 32 ∷ 48 ∷ 32 ∷ 52 ∷ 10 ∷
       []
-  -- two grants were accepted; one was refused by its page, which had nowhere to go, and one by its bits
-  pub counted : end .counters ≡ counters 2 2
+  -- three grants were accepted; one was refused by its page, which had nowhere to go, and one by its bits
+  pub counted : end .counters ≡ counters 3 2
   -- each is seen right after the call that it counts
   pub seenCounters :
       map (λ (x : Seen). x .counters) (seen (λ _. false) start (instanceList 77)) ≡
-      replicate 20 (counters 0 0) ++ replicate 14 (counters 0 1) ++ replicate 10 (counters 0 2) ++ (counters 1 2 ∷ replicate 12 (counters 2 2))
-  pub two : grantsAnswered isDone (after start []) (instanceList 77) ≡ 2
+      replicate 10 (counters 0 0) ++ replicate 11 (counters 1 0) ++ replicate 14 (counters 1 1) ++ replicate 15 (counters 1 2) ++
+      (counters 2 2 ∷ counters 2 2 ∷ replicate 9 (counters 3 2))
+  pub three : grantsAnswered isDone (after start []) (instanceList 77) ≡ 3
   pub short : length (instanceList 77) < 4294967296
   -- the ledger: pages 6 and 2, the pin of page 5 and the unpin of page 6, the one live grant, its word, and the totals
   pub six-live : end .ledger .live 6 ≡ true
@@ -140,18 +147,22 @@ record Computed : Type 0 where
   pub five-pinned : end .ledger .pinned 5 ≡ true
   pub six-unpinned : end .ledger .pinned 6 ≡ false
   pub five-frame : lastPinFrame 5 0 start (instanceList 77) ≡ 8
-  -- page 6 was pinned at frame 9, and stands at 5 now: no call but a pin counts as one
+  -- page 6 was pinned at frame 9, and stands at 10 now: no call but a pin counts as one
   pub six-frame : lastPinFrame 6 0 start (instanceList 77) ≡ 9
   pub one-grant : end .ledger .grants ≡ grantOf (frame 9) 1 ∷ []
   pub nine-live : isLiveFrame end (frame 9) ≡ true
   pub nine-word : end .ledger .deviceWord 9 ≡ 55
   pub nine-device : deviceOf end (frame 9) ≡ 7
+  -- page 3 stands at frame 6, the place after the first two
+  pub base : end .machine .memory .base .0 ≡ 4
+  pub frames : end .machine .memory .frames ≡ 12
+  pub three-fixed : markAt (end .own) (place 2) ≡ markOf 3 fixed
   pub thirteen-free : isLiveFrame end (frame 13) ≡ false
-  pub granted : end .ledger .granted ≡ 3
-  pub released : end .ledger .released ≡ 2
+  pub granted : end .ledger .granted ≡ 7
+  pub released : end .ledger .released ≡ 6
 
 computed : Computed
-unfolding flatMap grantsAnswered after admitted lastPinFrame seen next afterGrant report reported reportOf usedOf maxChunk amountLine areaLine sumOver linesOver fourNumbers decimal decimalUpTo longest stretch update grantsAt without lowestFrom lowest some every howMany highestFrom isClear changeBit changeBits inAreas firstWord fill digitOf digitsEnd digitsValue unitOf digits number isPowerOfTwo amount isNameByte nameLength isNamed sameBytes region regionsFrom regions memoryRight lengthsRight areaRight areaFits shapeRight checked pageAt freeOrdinary freeInArea putAt putPage dropPage changeKind storePage readPage isCandidate isGrantable chosen movers targets movePage moveOut takeRun grant laterFrames freeRun release deviceStore deviceRead alignmentFor baseFor sizeFor limitFor isVacant fitsAt highestFit declare declareAll bootRecord boot
+unfolding flatMap grantsAnswered after admitted lastPinFrame seen next afterGrant report reported reportOf usedOf maxChunk amountLine areaLine sumOver linesOver fourNumbers decimal decimalUpTo longest stretch update grantsAt without lowestFrom lowest some every howMany highestFrom isClear changeBit changeBits inAreas firstWord fill digitOf digitsEnd digitsValue unitOf digits number isPowerOfTwo amount isNameByte nameLength isNamed sameBytes region regionsFrom regions memoryRight lengthsRight areaRight areaFits shapeRight checked pageAt freeOrdinary freeInArea putAt putPage dropPage changeKind storePage readPage isCandidate isGrantable chosen movers isTarget targets firstTarget movePage moveOut takeRun grant laterFrames freeRun release deviceStore deviceRead alignmentFor baseFor sizeFor limitFor isVacant fitsAt highestFit declare declareAll bootRecord boot
 computed =
     record {
       accepted = refl;
@@ -160,7 +171,7 @@ computed =
       reports = refl;
       counted = refl;
       seenCounters = refl;
-      two = refl;
+      three = refl;
       short = omega arith;
       six-live = refl;
       six-word = refl;
@@ -173,6 +184,9 @@ computed =
       nine-live = refl;
       nine-word = refl;
       nine-device = refl;
+      base = refl;
+      frames = refl;
+      three-fixed = refl;
       thirteen-free = refl;
       granted = refl;
       released = refl;
@@ -200,7 +214,7 @@ five-marked = demand3-here .pinned .marked 5 (computed .five-pinned)
 pub six-not-pinned : kindOf (markOfPage end 6) ≢ pinned
 six-not-pinned = demand3-here .pinned .unmarked 6 (computed .six-live) (computed .six-unpinned)
 
--- (3) one frame is granted: three were, and two were released
+-- (3) one frame is granted: seven were, and six were released
 pub one-granted : howMany (isGrantedPlace end) 0 (end .machine .memory .frames) ≡ 1
 one-granted =
     let total = demand3-here .grants .total in
@@ -227,11 +241,18 @@ nine-owner = demand3-here .owners .owner (frame 9) (computed .nine-live) ∙ com
 pub nine-kept : frameRelease end 0 (frame 9) 1 8 .left ≡ end .own
 nine-kept = demand3-here .owners .releases 0 (frame 9) 1 8 (λ _ e. absurd (omega (arith, computed .nine-device))) .2
 
--- (6) two grants were accepted, from the list's start to its end
-pub two-granted : since (end .counters .granted) (after start [] .counters .granted) ≡ 2
-two-granted = demand3-here .counters .granted [] (instanceList 77) refl (computed .short) ∙ computed .two
+-- (6) three grants were accepted, from the list's start to its end
+pub three-granted : since (end .counters .granted) (after start [] .counters .granted) ≡ 3
+three-granted = demand3-here .counters .granted [] (instanceList 77) refl (computed .short) ∙ computed .three
 
--- (7) other words to pages 6 and 5 and other bytes in the report's buffer, after a boot on other tables: the same answers, but for the words that
+-- (7) no area has frame 6, where the fixed page 3 stands
+pub six-ordinary : (area : ℕ) → InArea (end .machine) 6 area → ⊥
+six-ordinary area =
+    let six : end .machine .memory .base .0 + 2 ≡ 6 = omega (arith, computed .base) in
+    subst (λ (f : ℕ). InArea (end .machine) f area → ⊥) six
+    (demand3-here .fixed .outside 2 area (omega (arith, computed .frames)) (ap kindOf (computed .three-fixed)))
+
+-- (8) other words to pages 6 and 5 and other bytes in the report's buffer, after a boot on other tables: the same answers, but for the words that
 -- reads of these pages give, the same counters and the same report
 same-first :
     (chosen : ℕ → Bool) (first : List Item) {xs ys : List Item} → SameList chosen xs ys → SameList chosen (first ++ xs) (first ++ ys)

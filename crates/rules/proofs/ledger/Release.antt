@@ -10,6 +10,7 @@ use Rattle.search.specs.Search.{howMany}
 use Rattle.search.proofs.Bools.{clash, or-left, or-right}
 use Rattle.bitmap.specs.Bits.{clearIn, clearBits}
 use Rattle.answer.specs.Answers.{done}
+use Rattle.search.proofs.Counts.{many-run}
 use Rattle.frames.specs.declared.Frame.{Frame}
 use Rattle.frames.specs.Units.{place}
 use Rattle.frames.specs.Marks.{fieldOf, hasKind, isGranted, head}
@@ -36,7 +37,7 @@ use Rattle.rules.proofs.AreaRight.{area-facts}
 use Rattle.rules.proofs.ledger.FrameRuns.{RunChange, in-run-or-not, fill-run}
 use Rattle.bitmap.proofs.Runs.{change-length}
 use Rattle.rules.proofs.ledger.Names.{PagesKept, names-kept}
-use Rattle.rules.proofs.ledger.Grants.{low-takes, among-at, without-among, many-run, grant-moved}
+use Rattle.rules.proofs.ledger.Grants.{low-takes, among-at, without-among, grant-moved}
 use Rattle.rules.proofs.ledger.Kept.{Kept, kept-refused, pin-stays, done-kept}
 use Rattle.rules.proofs.ledger.ReleasedGrant.{Releasable, OneGrant, one-grant}
 use Rattle.rules.proofs.ledger.ReleaseBits.{freed-bits}

@@ -1,4 +1,4 @@
--- Two runs of the same calls, that differ only in words stored to chosen names and in the bytes of reports' buffers, agree: part (7) of demand 3.
+-- Two runs of the same calls, that differ only in words stored to chosen names and in the bytes of reports' buffers, agree: part (8) of demand 3.
 -- Assumes nothing.
 use Prim.Native.Nat.{ℕ}
 use mathlib.Core.Bool.{Bool, true, false, not, _&&_, _||_}

@@ -16,9 +16,11 @@ use Rattle.frames.specs.Tables.{Tables, markAt, ownerAt}
 use Rattle.rules.specs.declared.Record.{Record}
 use Rattle.rules.specs.Record.{areaAt, placeOf, endFrame}
 use Rattle.rules.specs.Limits.{mostAlignOrder}
-use Rattle.rules.specs.DeviceCalls.{badDevice, notOwner, isUnknown, isGrantable, chosen, placeOfBit, movers, targets, outsideArea, offBit, laterFrames, outsideMemory}
+use Rattle.rules.specs.DeviceCalls.{badDevice, notOwner, isUnknown, isGrantable, chosen, placeOfBit, movers, outsideArea, offBit, laterFrames, outsideMemory}
 use Rattle.rules.specs.promises.Changes.{kindAt, fieldAt}
-use Rattle.rules.specs.promises.Grants.{Grantable, freeBelow, moved, NoRun, NoTargets}
+use Rattle.rules.specs.Targets.{targets}
+use Rattle.rules.proofs.Targets.{room-is}
+use Rattle.rules.specs.promises.Grants.{Grantable, roomFor, moved, NoRun, NoTargets}
 use Rattle.rules.specs.promises.Numbers.{BadDevice, BadGrant, BadRelease, NoGrant, NotOwner, Disagrees, BadFrame, NotGranted}
 use Rattle.rules.proofs.Says.{Says, says-is, says-false, says-ltb, says-leb, says-eqb, says-not, says-or, says-right, says-not-every, says-missed, says-lowest}
 use Rattle.rules.proofs.promises.Grants.{grantable-says, in-range}
@@ -46,6 +48,9 @@ module _ (m : Record) (t : Tables) (i count alignOrder device : ℕ) where
     abbrev grantable : ℕ → Bool
     grantable j = isGrantable m t i count alignOrder (bit j)
 
+    known : i < m .memory .declared
+    known = below-or-not i (m .memory .declared) (λ h. h) (λ h. absurd (good (inl h)))
+
     some : 0 < count
     some = below-or-not 0 count (λ h. h) (λ h. absurd (good (inr (inl (omega arith)))))
 
@@ -55,14 +60,15 @@ module _ (m : Record) (t : Tables) (i count alignOrder device : ℕ) where
 
     pub no-targets :
         (NoRun m t i count alignOrder → ⊥) →
-        Says (ltb (targets m t) (movers t (placeOfBit m i (chosen m t i count alignOrder)) count)) (NoTargets m t i count alignOrder)
-    unfolding chosen movers targets
+        Says (ltb (targets m t i) (movers t (placeOfBit m i (chosen m t i count alignOrder)) count)) (NoTargets m t i count alignOrder)
+    unfolding chosen movers
     no-targets run =
-        says-is (λ w. (w .0, record { grantable = w .1 .0; lowest = w .1 .1 }, w .2)) (λ w. (w .0, (w .1 .grantable, w .1 .lowest), w .2))
+        rw (room-is m i known t)
+        (says-is (λ w. (w .0, record { grantable = w .1 .0; lowest = w .1 .1 }, w .2)) (λ w. (w .0, (w .1 .grantable, w .1 .lowest), w .2))
         (says-lowest grantable bits (Grantable m t i count alignOrder) (λ j _. grantable-says m t i count alignOrder j) (in-range m t i count alignOrder some)
-        (λ j. ltb (freeBelow m t (m .memory .frames)) (moved m t i count alignOrder j))
-        (λ j. freeBelow m t (m .memory .frames) < moved m t i count alignOrder j) (λ j. says-ltb (freeBelow m t (m .memory .frames)) (moved m t i count alignOrder j))
-        (leb-false bits (lowest grantable bits) (says-false no-run run)))
+        (λ j. ltb (roomFor m t i) (moved m t i count alignOrder j))
+        (λ j. roomFor m t i < moved m t i count alignOrder j) (λ j. says-ltb (roomFor m t i) (moved m t i count alignOrder j))
+        (leb-false bits (lowest grantable bits) (says-false no-run run))))
 
 -- ---- release
 module _ (m : Record) (t : Tables) (i : ℕ) (f : Frame) (count device : ℕ) where

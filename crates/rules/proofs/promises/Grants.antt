@@ -2,10 +2,10 @@
 use Prim.Native.Nat.{ℕ, _≤_, _<_}
 use native.Mathlib.Omega.{arith}
 use mathlib.Core.Path.{_≡_, sym, ap, ap₂, _∙_}
-use mathlib.Core.Bool.{Bool, _||_}
+use mathlib.Core.Bool.{Bool, false, _||_}
 use lib.Dec.{eqb, ltb}
 use lib.Pow.{pow-pos}
-use borrow.Author.Tests.{eqb-false, le-leb, lt-leb, lt-ltb, le-ltb}
+use borrow.Author.Tests.{leb-false, eqb-false, le-leb, lt-leb, lt-ltb, le-ltb}
 use Rattle.search.specs.Search.{lowest}
 use Rattle.search.proofs.Bools.{below-or-not, clash, or-left, or-right}
 use Rattle.search.proofs.Lowest.{found-passes, found-low}
@@ -20,12 +20,14 @@ use Rattle.rules.specs.declared.Record.{Record}
 use Rattle.rules.specs.Record.{areaAt}
 use Rattle.rules.specs.Limits.{mostAlignOrder}
 use Rattle.rules.specs.Outcomes.{Outcome, here, there}
-use Rattle.rules.specs.DeviceCalls.{isUnknown, badDevice, bitmapOf, placeOfBit, isCandidate, isGrantable, chosen, movers, targets, grant}
+use Rattle.rules.specs.DeviceCalls.{isUnknown, badDevice, bitmapOf, placeOfBit, isCandidate, isGrantable, chosen, movers, grant}
+use Rattle.rules.specs.Targets.{targets}
 use Rattle.rules.proofs.Checks.{checked-first, checked-passed}
 use Rattle.rules.proofs.Divisions.{ceiling-some}
+use Rattle.rules.proofs.Targets.{room-is}
 use Rattle.rules.proofs.Says.{Says, says-is, says-true, says-leb, says-eqb, says-and, says-or, says-every}
 use Rattle.rules.specs.promises.Changes.{kindAt}
-use Rattle.rules.specs.promises.Grants.{Grantable, FirstGrantable, freeBelow, Asked, moved, GrantAnswers, GrantIsFirstFit}
+use Rattle.rules.specs.promises.Grants.{Grantable, FirstGrantable, roomFor, Asked, moved, GrantAnswers, GrantIsFirstFit}
 
 module _ (m : Record) (t : Tables) (i count alignOrder : ℕ) where
   abbrev test : ℕ → Bool
@@ -64,10 +66,16 @@ module _ (m : Record) (t : Tables) (i count alignOrder : ℕ) where
   first-known h = record { grantable = grantable-says first .fact (found-passes test bits h); lowest = before-first }
 
   module _ {device : ℕ} (asked : Asked m t i count alignOrder device) where
+    some-of-known : (isUnknown (m .memory) i || eqb count 0) ≡ false
+    some-of-known =
+        or-left (isUnknown (m .memory) i || eqb count 0) (ltb mostAlignOrder alignOrder)
+        (or-left (isUnknown (m .memory) i || eqb count 0 || ltb mostAlignOrder alignOrder) (badDevice device) (asked .arguments))
+
+    known : i < m .memory .declared
+    known = leb-false (m .memory .declared) i (or-left (isUnknown (m .memory) i) (eqb count 0) some-of-known)
+
     count-pos : 0 < count
-    count-pos =
-        below-or-not 0 count (λ h. h)
-        (λ h. absurd (eqb-false count 0 (or-right (isUnknown (m .memory) i) (eqb count 0) (or-left (isUnknown (m .memory) i || eqb count 0) (ltb mostAlignOrder alignOrder) (or-left (isUnknown (m .memory) i || eqb count 0 || ltb mostAlignOrder alignOrder) (badDevice device) (asked .arguments)))) (omega arith)))
+    count-pos = below-or-not 0 count (λ h. h) (λ h. absurd (eqb-false count 0 (or-right (isUnknown (m .memory) i) (eqb count 0) some-of-known) (omega arith)))
 
     -- the one found is the only first
     first-is : (j : ℕ) → FirstGrantable m t i count alignOrder j → first ≡ j
@@ -89,25 +97,25 @@ module _ (m : Record) (t : Tables) (i count alignOrder : ℕ) where
     unfolding grant
     answer-7 h = ap (λ (o : Outcome). o .answer) (checked-first m t _ (there (asked .shape) (there (asked .arguments) (here (le-leb bits first h)))))
 
-    answer-8 : first < bits → freeBelow m t (m .memory .frames) < moved m t i count alignOrder first → answer ≡ refused 8
-    unfolding grant movers targets
+    answer-8 : first < bits → roomFor m t i < moved m t i count alignOrder first → answer ≡ refused 8
+    unfolding grant movers
     answer-8 h l =
         ap (λ (o : Outcome). o .answer)
-        (checked-first m t _ (there (asked .shape) (there (asked .arguments) (there (lt-leb bits first h) (here (lt-ltb _ _ l))))))
+        (checked-first m t _ (there (asked .shape) (there (asked .arguments) (there (lt-leb bits first h) (here (lt-ltb (targets m t i) _ (omega (arith, room-is m i known t))))))))
 
-    answer-done : first < bits → moved m t i count alignOrder first ≤ freeBelow m t (m .memory .frames) → answer ≡ done (frameOfBit (areaAt m i) (bit first) .0) (moved m t i count alignOrder first)
-    unfolding grant movers targets
+    answer-done : first < bits → moved m t i count alignOrder first ≤ roomFor m t i → answer ≡ done (frameOfBit (areaAt m i) (bit first) .0) (moved m t i count alignOrder first)
+    unfolding grant movers
     answer-done h l =
         ap (λ (o : Outcome). o .answer)
-        (checked-passed m t _ _ (asked .shape, (asked .arguments, (lt-leb bits first h, (le-ltb _ _ l, tt)))))
+        (checked-passed m t _ _ (asked .shape, (asked .arguments, (lt-leb bits first h, (le-ltb (targets m t i) _ (omega (arith, room-is m i known t)), tt)))))
 
     -- which of the three it is
     by-answer : {P : Type 0} → (bits ≤ first → answer ≡ refused 7 → P) →
-        (first < bits → freeBelow m t (m .memory .frames) < moved m t i count alignOrder first → answer ≡ refused 8 → P) →
-        (first < bits → moved m t i count alignOrder first ≤ freeBelow m t (m .memory .frames) → answer ≡ done (frameOfBit (areaAt m i) (bit first) .0) (moved m t i count alignOrder first) → P) → P
+        (first < bits → roomFor m t i < moved m t i count alignOrder first → answer ≡ refused 8 → P) →
+        (first < bits → moved m t i count alignOrder first ≤ roomFor m t i → answer ≡ done (frameOfBit (areaAt m i) (bit first) .0) (moved m t i count alignOrder first) → P) → P
     by-answer seven eight accepted =
         below-or-not first bits
-        (λ h. below-or-not (freeBelow m t (m .memory .frames)) (moved m t i count alignOrder first) (λ l. eight h l (answer-8 h l)) (λ l. accepted h l (answer-done h l)))
+        (λ h. below-or-not (roomFor m t i) (moved m t i count alignOrder first) (λ l. eight h l (answer-8 h l)) (λ l. accepted h l (answer-done h l)))
         (λ h. seven h (answer-7 h))
 
     -- a refusal that is another number
@@ -119,7 +127,7 @@ module _ (m : Record) (t : Tables) (i count alignOrder : ℕ) where
 
     abbrev Accepted : ℕ → ℕ → Type 0
     Accepted f n =
-        (j : ℕ) × FirstGrantable m t i count alignOrder j × (frameOfBit (areaAt m i) (bit j) .0 ≡ f) × (moved m t i count alignOrder j ≡ n) × (n ≤ freeBelow m t (m .memory .frames))
+        (j : ℕ) × FirstGrantable m t i count alignOrder j × (frameOfBit (areaAt m i) (bit j) .0 ≡ f) × (moved m t i count alignOrder j ≡ n) × (n ≤ roomFor m t i)
 
     accepted-known : (f n : ℕ) → answer ≡ done f n → Accepted f n
     accepted-known f n e =
@@ -141,12 +149,12 @@ module _ (m : Record) (t : Tables) (i count alignOrder : ℕ) where
         by-answer (λ h r. before-first j (omega (arith, in-range count-pos j g)) g)
         (λ h l r. other-refusal 7 r e (λ q. absurd (omega arith))) (λ h l r. other-refusal 7 r e (λ q. absurd (omega arith)))
 
-    no-target-known : answer .refusal ≡ 8 → (j : ℕ) × FirstGrantable m t i count alignOrder j × (freeBelow m t (m .memory .frames) < moved m t i count alignOrder j)
+    no-target-known : answer .refusal ≡ 8 → (j : ℕ) × FirstGrantable m t i count alignOrder j × (roomFor m t i < moved m t i count alignOrder j)
     no-target-known e =
         by-answer (λ h r. other-refusal 8 r e (λ q. absurd (omega arith))) (λ h l r. (first, first-known h, l))
         (λ h l r. other-refusal 8 r e (λ q. absurd (omega arith)))
 
-    no-target-test : (j : ℕ) × FirstGrantable m t i count alignOrder j × (freeBelow m t (m .memory .frames) < moved m t i count alignOrder j) → answer .refusal ≡ 8
+    no-target-test : (j : ℕ) × FirstGrantable m t i count alignOrder j × (roomFor m t i < moved m t i count alignOrder j) → answer .refusal ≡ 8
     no-target-test w =
         let same : moved m t i count alignOrder first ≡ moved m t i count alignOrder (w .0) = ap (moved m t i count alignOrder) (first-is (w .0) (w .1)) in
         ap (λ (x : Answer). x .refusal) (answer-8 (first-in-range (w .0) (w .1)) (omega (arith, w .2)))

@@ -23,9 +23,16 @@ use Rattle.rules.specs.PageCalls.{pageAt, isLive, pageHas, putChecks, dr
 use Rattle.rules.proofs.Checks.{checked-passed, accepted-does, accepted-passed}
 use Rattle.rules.proofs.Says.{says-no}
 use Rattle.rules.proofs.Shapes.{shape-known}
-use Rattle.rules.specs.promises.Pages.{Lowest, PutPlace, PutDoes, AcceptedPutMovable, AcceptedPutFixed, Stands, LiveIfStands, PageDoes, AcceptedDrop, AcceptedPin, AcceptedUnpin, AcceptedStore, AcceptedRead, StoreThenRead, PinnedPagesStay}
+use Rattle.rules.specs.promises.Pages.{FreeIsMeant, Lowest, PutPlace, PutDoes, AcceptedPutMovable, AcceptedPutFixed, Stands, LiveIfStands, PageDoes, AcceptedDrop, AcceptedPin, AcceptedUnpin, AcceptedStore, AcceptedRead, StoreThenRead, PinnedPagesStay}
 use Rattle.rules.proofs.promises.Changes.{set-only}
-use Rattle.rules.proofs.promises.PlaceTests.{some-ordinary, lowest-ordinary, lowest-in-area, lowest-standing, live}
+use Rattle.rules.proofs.promises.PlaceTests.{free-ordinary, free-in-area, some-ordinary, lowest-ordinary, lowest-in-area, lowest-standing, live}
+
+pub free-is-meant : FreeIsMeant
+free-is-meant =
+    record {
+      ordinary = λ m t p h. (free-ordinary m t p h .fact, free-ordinary m t p h .test);
+      in-area = λ m t p h. (free-in-area m t p h .fact, free-in-area m t p h .test);
+    }
 
 -- ---- put
 module _ (m : Record) (t : Tables) where

@@ -25,7 +25,7 @@ use Rattle.frames.specs.Areas.{isMultiple, endOf, perBit, bitCount, frameOfBit,
 use Rattle.frames.specs.Tables.{Tables, markAt, wordAt, ownerAt}
 use Rattle.frames.proofs.FillFacts.{length-fill, getD-fill-below, getD-fill-above, getD-fill-in}
 use Rattle.rules.specs.declared.Record.{Record}
-use Rattle.rules.specs.Record.{areaAt, placeOf, isOrdinary}
+use Rattle.rules.specs.Record.{areaAt, placeOf}
 use Rattle.rules.specs.Shape.{shapeRight}
 use Rattle.rules.specs.Outcomes.{outcome, Passed}
 use Rattle.rules.specs.DeviceCalls.{isUnknown, badDevice, bitmapOf, placeOfBit, outsideArea, offBit, freeRun, releaseChecks, release}
@@ -37,7 +37,7 @@ use Rattle.rules.proofs.Shapes.{Shape, shape-known}
 use Rattle.rules.proofs.AreaRight.{AreaFacts, area-known}
 use Rattle.rules.proofs.ledger.BitRuns.{run-fits}
 use Rattle.rules.proofs.promises.Changes.{filled-owners}
-use Rattle.rules.proofs.promises.Runs.{in-run-or-not, count-le, run-in-area}
+use Rattle.rules.proofs.promises.Runs.{in-run-or-not}
 
 -- ---- what can be granted stays so
 
@@ -64,16 +64,13 @@ Leaves t q = (kindOf (markAt t (place q)) ≡ free) ⊎ (kindOf (markAt t (place
 
 pub stays-grantable :
     (m : Record) (t t′ : Tables) →
-    Shape m t →
     ((at k : ℕ) → isClear (t .bitmap) at k ≡ true → isClear (t′ .bitmap) at k ≡ true) →
-    ((q : ℕ) → isOrdinary m (place q) ≡ false → Leaves t q → Leaves t′ q) → StillGrantable m t t′
-stays-grantable m t t′ shape bits frames i count alignOrder j known g =
+    ((q : ℕ) → Leaves t q → Leaves t′ q) → StillGrantable m t t′
+stays-grantable m t t′ bits frames i count alignOrder j known g =
     let c = g .candidate in
     record {
       candidate = record { aligned = c .aligned; inside = c .inside; clear = λ k a b. bits (bitmapOf m i) k (c .clear k a b) };
-      leaves = λ q a b.
-          let whole = count-le m t shape i count j known (c .inside) in
-          frames q (run-in-area m t shape i count j known (c .inside) q a (omega arith)) (g .leaves q a b);
+      leaves = λ q a b. frames q (g .leaves q a b);
     }
 
 -- ---- a release that has passed its checks
@@ -197,7 +194,7 @@ module _ (m : Record) (i : ℕ) (f : Frame) (count device : ℕ) (t : Tables) (p
         bits = only-bits;
         owners = filled-owners t freed p count 0 (omega (arith, shape .owners-length, in-memory));
         again = can-grant;
-        still = stays-grantable m t freed shape (stays-clear t freed (bitmapOf m i) j (bitsFor area count) only-bits) (λ q _. can-leave q);
+        still = stays-grantable m t freed (stays-clear t freed (bitmapOf m i) j (bitsFor area count) only-bits) can-leave;
       }
 
 pub accepted-release : AcceptedRelease

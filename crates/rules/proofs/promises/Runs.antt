@@ -7,20 +7,21 @@ use native.Mathlib.Omega.{arith}
 use native.Mathlib.Nat.{div-mul-le-self, mul-le-mul-right, le-refl}
 use mathlib.Core.Path.{_≡_, ap, subst, _∙_}
 use mathlib.Core.Logic.{_≢_}
-use mathlib.Core.Bool.{false, not}
+use mathlib.Core.Bool.{true}
 use lib.ListN.{length, set, length-set}
 use lib.Seq.{getD-set-same, getD-set-other}
 use lib.Pow.{pow-pos}
 use Rattle.search.proofs.Bools.{below-or-not}
 use Rattle.frames.specs.declared.Area.{Area}
-use Rattle.frames.specs.Units.{frame, place, bit}
+use Rattle.frames.specs.Units.{place, bit}
 use Rattle.frames.specs.Marks.{markOf, head, later}
 use Rattle.frames.specs.Areas.{perBit, bitCount, bitsFor, wordCount, firstWord}
 use Rattle.frames.specs.Tables.{Tables, markAt, wordAt}
-use Rattle.frames.proofs.AreaFacts.{first-word-suc, holds-yes, in-area}
+use Rattle.frames.proofs.AreaFacts.{first-word-suc, holds-yes}
 use Rattle.frames.proofs.FillFacts.{getD-fill-below, getD-fill-above, getD-fill-in}
 use Rattle.rules.specs.declared.Record.{Record}
-use Rattle.rules.specs.Record.{areaAt, isOrdinary}
+use Rattle.rules.specs.Record.{areaAt}
+use Rattle.rules.specs.Targets.{inAreaAt}
 use Rattle.rules.specs.DeviceCalls.{bitmapOf, placeOfBit, markRun}
 use Rattle.rules.proofs.Divisions.{le-ceiling}
 use Rattle.rules.proofs.Shapes.{Shape}
@@ -61,9 +62,8 @@ module _ (m : Record) (t : Tables) (s : Shape m t) (i count j : ℕ) (known : i 
   pub run-inside : at + bitsFor area count * perBit area ≤ m .memory .frames
   run-inside = omega (arith, frames-inside, at-is, area-known m t s i known .high)
 
-  pub run-in-area : (q : ℕ) → at ≤ q → q < at + bitsFor area count * perBit area → isOrdinary m (place q) ≡ false
-  run-in-area q a b =
-      ap not (in-area (m .areas) (m .memory .declared) (frame (m .memory .base .0 + q)) i known (holds-yes area (m .memory .base .0 + q) (omega (arith, at-is)) (omega (arith, at-is, frames-inside))))
+  pub run-in-area : (q : ℕ) → at ≤ q → q < at + bitsFor area count * perBit area → inAreaAt m i (place q) ≡ true
+  run-in-area q a b = holds-yes area (m .memory .base .0 + q) (omega (arith, at-is)) (omega (arith, at-is, frames-inside))
 
 -- ---- marking a run
 

@@ -3,13 +3,13 @@ use Prim.Native.Nat.{ℕ, suc, _+_, _-_, _*_, _/_, _%_, _^_, _≤_, _<_}
 use native.Mathlib.Omega.{arith}
 use native.Mathlib.Nat.{add-sub-cancel-left, mul-mod-left, eq-of-mul-eq-mul-right}
 use mathlib.Core.Path.{_≡_, refl, sym, ap, subst, _∙_}
-use mathlib.Core.Logic.{_⊎_, inl}
+use mathlib.Core.Logic.{_⊎_, inl, inr}
 use mathlib.Core.Bool.{true, false, not, _||_}
 use lib.Dec.{ltb, eqb}
 use lib.ListN.{length, length-set}
 use lib.Pow.{pow-pos}
-use borrow.Author.Tests.{leb-false, ltb-false, eqb-false, lt-leb, le-ltb, eq-eqb, ne-eqb}
-use Rattle.search.proofs.Bools.{below-or-not, or-left, or-right, or-neither, not-flips, and-right, clash}
+use borrow.Author.Tests.{leb-false, ltb-false, eqb-true, eqb-false, lt-leb, le-ltb, eq-eqb, ne-eqb}
+use Rattle.search.proofs.Bools.{by-cases, below-or-not, or-left, or-right, or-neither, not-flips, clash}
 use Rattle.search.proofs.Ranges.{all-every}
 use Rattle.answer.specs.Answers.{done}
 use Rattle.bitmap.specs.Bits.{setIn}
@@ -24,19 +24,20 @@ use Rattle.frames.specs.Areas.{endOf, perBit, bitCount, bitsFor, frameOfBit}
 use Rattle.frames.specs.Tables.{Tables, markAt}
 use Rattle.frames.proofs.FillFacts.{length-fill}
 use Rattle.rules.specs.declared.Record.{Record}
-use Rattle.rules.specs.Record.{areaAt, isOrdinary}
+use Rattle.rules.specs.Record.{areaAt}
 use Rattle.rules.specs.Limits.{mostAlignOrder}
 use Rattle.rules.specs.Shape.{shapeRight}
 use Rattle.rules.specs.Outcomes.{Outcome, outcome, Passed}
-use Rattle.rules.specs.PageCalls.{isFree, freeOrdinary}
-use Rattle.rules.specs.DeviceCalls.{isUnknown, badDevice, notOwner, bitmapOf, placeOfBit, chosen, movers, targets, moveOut, takeRun, grantChecks, grant, outsideArea, offBit, laterFrames, releaseChecks, release}
+use Rattle.rules.specs.Targets.{isTarget, targets}
+use Rattle.rules.specs.DeviceCalls.{isUnknown, badDevice, notOwner, bitmapOf, placeOfBit, chosen, movers, moveOut, takeRun, grantChecks, grant, outsideArea, offBit, laterFrames, releaseChecks, release}
 use Rattle.rules.proofs.Checks.{checked-passed, accepted-passed}
 use Rattle.rules.proofs.ShapeFacts.{shape-lengths}
 use Rattle.rules.proofs.Shapes.{Shape, shape-known}
-use Rattle.rules.specs.promises.Grants.{Grantable, movableIn, freeBelow}
+use Rattle.rules.specs.promises.Grants.{Grantable, movableIn}
 use Rattle.rules.specs.promises.Changes.{Same, SameLengths, OnlyBits}
-use Rattle.rules.specs.promises.Moves.{MovesTo, GrantDoes, AcceptedGrant}
+use Rattle.rules.specs.promises.Moves.{Target, targetsBefore, MovesTo, GrantDoes, AcceptedGrant}
 use Rattle.rules.specs.promises.Releases.{ReleaseDoes, FreedRoom, FreedRoomIsUsed}
+use Rattle.rules.proofs.Targets.{in-no-target, target-known, target-test}
 use Rattle.rules.proofs.promises.Grants.{first-known}
 use Rattle.rules.proofs.promises.Releases.{Leaves, stays-clear, stays-grantable, accepted-release}
 use Rattle.rules.proofs.promises.Moves.{Ready, Moved, moved-all}
@@ -89,8 +90,8 @@ module _ (m : Record) (i count alignOrder device : ℕ) (t : Tables) (passed : P
   found : j < bitCount area
   found = leb-false (bitCount area) j (passed .1 .1 .0)
 
-  room : movers t (place p) count ≤ targets m t
-  room = ltb-false (targets m t) (movers t (place p) count) (passed .1 .1 .1 .0)
+  room : movers t (place p) count ≤ targets m t i
+  room = ltb-false (targets m t i) (movers t (place p) count) (passed .1 .1 .1 .0)
 
   grantable : Grantable m t i count alignOrder j
   grantable = first-known m t i count alignOrder found .grantable
@@ -100,10 +101,10 @@ module _ (m : Record) (i count alignOrder device : ℕ) (t : Tables) (passed : P
 
   -- ---- what the grant leaves
   abbrev moved-out : Tables
-  moved-out = moveOut m t (place p) count
+  moved-out = moveOut m t i (place p) count
 
-  ready : Ready m t p count
-  unfolding movers targets
+  ready : Ready m i known t p count
+  unfolding movers
   ready =
       record {
         sized = record { marks = shape .marks-length; words = shape .words-length };
@@ -112,8 +113,8 @@ module _ (m : Record) (i count alignOrder device : ℕ) (t : Tables) (passed : P
         room = room;
       }
 
-  out : Moved m t moved-out p count
-  out = moved-all m t p count ready
+  out : Moved m i known t moved-out p count
+  out = moved-all m i known t p count ready
 
   marks-room : p + count ≤ length (moved-out .marks)
   marks-room = omega (arith, ready .inside, out .sized .marks)
@@ -124,26 +125,45 @@ module _ (m : Record) (i count alignOrder device : ℕ) (t : Tables) (passed : P
   abbrev left : Tables
   left = takeRun m t i count (bit j) device
 
-  same-after : (q : ℕ) → (p ≤ q → q < p + count → ⊥) → (freeOrdinary m t (place q) ≡ true → movableIn t p count ≤ freeBelow m t q) → Same t left q
+  same-after : (q : ℕ) → (p ≤ q → q < p + count → ⊥) → (Target m t i q → movableIn t p count ≤ targetsBefore m t i q) → Same t left q
   unfolding movers takeRun
   same-after q outside bound =
       let a = marked-other moved-out p count some marks-room words-room q outside in
-      let b = out .stays q outside bound in
+      let b = out .stays q outside (λ h e. bound (target-known m i known t q h e)) in
       record { mark = a .0 ∙ b .mark; word = a .1 ∙ b .word }
 
-  not-ordinary : (q : ℕ) → p ≤ q → q < p + bitsFor area count * perBit area → freeOrdinary m t (place q) ≡ true → ⊥
-  unfolding freeOrdinary
-  not-ordinary q a b e =
-      clash (isOrdinary m (place q)) (and-right (isFree t (place q)) (isOrdinary m (place q)) e) (run-in-area m t shape i count j known inside q a b)
+  no-target : (q : ℕ) → p ≤ q → q < p + bitsFor area count * perBit area → Target m t i q → ⊥
+  no-target q a b w =
+      clash (isTarget m t i (place q)) (target-test m i known t q w) (in-no-target m i known t q (run-in-area m t shape i count j known inside q a b))
 
-  moves-after : (q : ℕ) → p ≤ q → q < p + count → hasKind movable (markAt t (place q)) ≡ true → (r : ℕ) × MovesTo m t left p q r
+  moves-after : (q : ℕ) → p ≤ q → q < p + count → hasKind movable (markAt t (place q)) ≡ true → (r : ℕ) × MovesTo m i t left p q r
   unfolding takeRun
   moves-after q a b e =
       let w = out .arrives q a b e in
       let f = w .1 in
-      let outside : p ≤ w .0 → w .0 < p + count → ⊥ = λ u v. not-ordinary (w .0) u (omega (arith, count-le m t shape i count j known inside)) (f .was-free) in
+      let outside : p ≤ w .0 → w .0 < p + count → ⊥ = λ u v. no-target (w .0) u (omega (arith, count-le m t shape i count j known inside)) (f .target) in
       let k = marked-other moved-out p count some marks-room words-room (w .0) outside in
-      (w .0, record { was-free = f .was-free; in-memory = f .in-memory; in-order = f .in-order; mark = k .0 ∙ f .mark; word = k .1 ∙ f .word })
+      (w .0, record { target = f .target; in-order = f .in-order; mark = k .0 ∙ f .mark; word = k .1 ∙ f .word })
+
+  -- a frame outside the run can leave if it could before: it is as it was, or a movable page went there
+  leaves-after : (q : ℕ) → (p ≤ q → q < p + count → ⊥) → Leaves t q → Leaves left q
+  unfolding movers takeRun
+  leaves-after q outside before =
+      below-or-not (targetsBefore m t i q) (movableIn t p count)
+      (λ l.
+      by-cases (isTarget m t i (place q))
+      (λ e.
+      below-or-not q (m .memory .frames)
+      (λ h.
+      inr
+      (ap kindOf (marked-other moved-out p count some marks-room words-room q outside .0) ∙
+      eqb-true (kindOf (markAt moved-out (place q))) movable (out .filled q h e l)))
+      (λ h. as-before (λ w. absurd (omega (arith, w .in-memory)))))
+      (λ e. as-before (λ w. clash (isTarget m t i (place q)) (target-test m i known t q w) e)))
+      (λ l. as-before (λ w. l))
+    where
+      as-before : (Target m t i q → movableIn t p count ≤ targetsBefore m t i q) → Leaves left q
+      as-before bound = subst (λ (x : ℕ). (kindOf x ≡ free) ⊎ (kindOf x ≡ movable)) (sym (same-after q outside bound .mark)) before
 
   bit-inside : (k : ℕ) → k < j + bitsFor area count → bitmapOf m i + k / 64 < length (t .bitmap)
   bit-inside k h = omega (arith, inside, words-inside m t shape i known)
@@ -183,7 +203,7 @@ module _ (m : Record) (i count alignOrder device : ℕ) (t : Tables) (passed : P
         first = marked-first moved-out p count some marks-room words-room;
         rest = marked-rest moved-out p count some marks-room words-room;
         words = marked-word moved-out p count some marks-room words-room;
-        spare = λ q a b. same-after q (λ u v. absurd (omega arith)) (λ e. absurd (not-ordinary q (omega arith) b e));
+        spare = λ q a b. same-after q (λ u v. absurd (omega arith)) (λ w. absurd (no-target q (omega arith) b w));
         bits =
             record {
               run = λ k a b. set-not-clear (t .bitmap) (bitmapOf m i) j (bitsFor area count) k a b (bit-inside k b);
@@ -260,20 +280,16 @@ module _ (m : Record) (i count alignOrder device : ℕ) (t : Tables) (passed : P
           words-before = λ w h. r .bits .words-before w h ∙ does-after .bits .words-before w h;
         }
 
-    -- a frame of an area can leave now if it could before the grant: in the run it is free, and elsewhere it is as it was
-    can-leave : (q : ℕ) → isOrdinary m (place q) ≡ false → Leaves t q → Leaves (u .left) q
-    unfolding freeOrdinary
-    can-leave q in-area before =
-        in-run-or-not q p′ count (λ a b. inl (ap kindOf (r .marks q a b))) (λ h. as-before (λ u v. absurd (omega arith)))
-        (λ h. as-before (λ u v. absurd (omega arith)))
+    -- a frame can leave now if it could before the grant: in the run it is free, and elsewhere it is as it was, or a movable page went there
+    can-leave : (q : ℕ) → Leaves t q → Leaves (u .left) q
+    can-leave q before =
+        in-run-or-not q p′ count (λ a b. inl (ap kindOf (r .marks q a b))) (λ h. outside (λ u v. absurd (omega arith)))
+        (λ h. outside (λ u v. absurd (omega arith)))
       where
-        not-free : freeOrdinary m t (place q) ≡ true → ⊥
-        not-free e = clash (isOrdinary m (place q)) (and-right (isFree t (place q)) (isOrdinary m (place q)) e) in-area
-
-        as-before : (p′ ≤ q → q < p′ + count → ⊥) → Leaves (u .left) q
-        as-before outside =
-            let s = does-after .kept q (λ a b. outside (omega (arith, same-place)) (omega (arith, same-place))) (λ e. absurd (not-free e)) in
-            subst (λ (x : ℕ). (kindOf x ≡ free) ⊎ (kindOf x ≡ movable)) (sym (r .kept q outside .mark ∙ s .mark)) before
+        outside : (p′ ≤ q → q < p′ + count → ⊥) → Leaves (u .left) q
+        outside out-of-it =
+            subst (λ (x : ℕ). (kindOf x ≡ free) ⊎ (kindOf x ≡ movable)) (sym (r .kept q out-of-it .mark))
+            (leaves-after q (λ a b. out-of-it (omega (arith, same-place)) (omega (arith, same-place))) before)
 
     freed-room : FreedRoom m i count alignOrder t after u j′
     freed-room =
@@ -281,7 +297,7 @@ module _ (m : Record) (i count alignOrder device : ℕ) (t : Tables) (passed : P
           accepted = release-accepted;
           on-bit = r .on-bit;
           again = r .again count alignOrder j′ aligned (omega arith) (omega arith) (omega (arith, r .at, r .on-bit));
-          still = stays-grantable m t (u .left) shape (stays-clear t (u .left) (bitmapOf m i) j′ (bitsFor area count) only-bits) can-leave;
+          still = stays-grantable m t (u .left) (stays-clear t (u .left) (bitmapOf m i) j′ (bitsFor area count) only-bits) can-leave;
         }
       where
         aligned : frameOfBit area (bit j′) .0 % 2 ^ alignOrder ≡ 0

@@ -46,8 +46,8 @@ perWord v = another (replicate 3 v)
 abbrev pub empty : Source
 empty = another []
 
--- a second area is declared at frames 12 to 15. Pages 1 to 4, of which 3 is fixed, take the ordinary frames 4 to 7, and 5 and 6 the area's 8 and 9.
--- Page 5 is pinned, and page 6 no longer
+-- a second area is declared at frames 12 to 15. Pages 1 to 4, of which 3 is fixed, take the ordinary frames 4 to 7, and 5 and 6 the first area's 8
+-- and 9. Page 5 is pinned, and page 6 no longer. The second area is granted whole
 abbrev pub placed : List Item
 placed =
     onOwn (Call.Declare anyFrames) ∷
@@ -60,6 +60,7 @@ placed =
     onOwn (Call.Pin 5) ∷
     onOwn (Call.Pin 6) ∷
     onOwn (Call.Unpin 6) ∷
+    onOwn (Call.Grant 1 4 0 8) ∷
     []
 
 -- the stores in which two runs may differ: the second is refused, for page 5 is pinned, and so is the third, which is lent another bitmap
@@ -81,8 +82,8 @@ refusedOnOwn =
     onOwn (Call.Store 7 1) ∷
     onOwn (Call.Read 7) ∷
     onOwn (Call.Grant 0 1 0 7) ∷
-    onOwn (Call.Release 1 (frame 12) 1 7) ∷
-    onOwn (Call.DeviceStore (frame 12) 1 7) ∷
+    onOwn (Call.Release 0 (frame 8) 1 7) ∷
+    onOwn (Call.DeviceStore (frame 8) 1 7) ∷
     onOwn (Call.DeviceRead (frame 16) 7) ∷
     onOwn (Call.Declare noFrames) ∷
     onOwn (Call.Boot (frame 0) 12 2) ∷
@@ -116,19 +117,22 @@ refusedOnOthers =
     itemWith Call.Report (replicate 60 0) empty own own own ∷
     []
 
--- page 2 leaves frame 5, so the grant now moves page 6 there from frame 9. The other area's grant is released again, once its two frames are counted
--- and its own device asks
+-- the second area's grant is released, once its four frames are counted and its own device asks. Page 2 leaves frame 5 to page 7, so no ordinary
+-- frame is free: the grant of frame 9 moves page 6 to the other area, to frame 12, and the next grant, there, moves it back, to frame 10
 abbrev pub granted : List Item
 granted =
     onOwn (Call.Drop 2) ∷
     onOwn (Call.Store 3 33) ∷
+    onOwn (Call.DeviceStore (frame 13) 66 8) ∷
+    onOwn (Call.Release 1 (frame 12) 1 8) ∷
+    onOwn (Call.Release 1 (frame 12) 4 7) ∷
+    onOwn (Call.Release 1 (frame 12) 4 8) ∷
+    onOwn (Call.PutMovable 7) ∷
     onOwn (Call.Grant 0 1 0 7) ∷
+    onOwn (Call.Read 6) ∷
     onOwn (Call.Grant 1 2 0 8) ∷
     onOwn (Call.DeviceStore (frame 9) 55 7) ∷
     onOwn (Call.DeviceStore (frame 9) 56 8) ∷
-    onOwn (Call.DeviceStore (frame 13) 66 8) ∷
-    onOwn (Call.Release 1 (frame 12) 1 8) ∷
-    onOwn (Call.Release 1 (frame 12) 2 7) ∷
     onOwn (Call.Release 1 (frame 12) 2 8) ∷
     onOwn (Call.Read 6) ∷
     onOwn (Call.Read 3) ∷

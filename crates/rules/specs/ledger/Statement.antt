@@ -1,6 +1,6 @@
 -- Demand 3, as one theorem: what holds after every list of page calls, device calls, declares, reports and refused boots that follows one accepted boot.
 -- It speaks of the calls by `perform`, the contracts' own definitions. The ledger is in Ledger.antt, and what each call is to it in
--- Roles.antt; the lists, what they leave and which are admitted are in Lists.antt. The theorem, at the end, has seven parts, numbered here.
+-- Roles.antt; the lists, what they leave and which are admitted are in Lists.antt. The theorem, at the end, has eight parts, numbered here.
 use Prim.Native.Nat.{ℕ, _+_, _≤_, _<_}
 use mathlib.Core.Bool.{Bool, true, false, not, _&&_}
 use mathlib.Core.List.{List, [], _++_}
@@ -11,7 +11,7 @@ use lib.ListN.{length, getD}
 use Rattle.search.specs.Search.{howMany}
 use Rattle.frames.specs.declared.Frame.{Frame}
 use Rattle.frames.specs.Units.{frame, place}
-use Rattle.frames.specs.Marks.{kindOf, markOf, isPageOf, isGranted, pinned}
+use Rattle.frames.specs.Marks.{kindOf, markOf, isPageOf, isGranted, pinned, fixed}
 use Rattle.frames.specs.Tables.{Tables, markAt, wordAt}
 use Rattle.rules.specs.declared.Call.{Call}
 use Rattle.rules.specs.declared.Call.the-variants as Call
@@ -22,6 +22,7 @@ use Rattle.rules.specs.Outcomes.{Outcome}
 use Rattle.rules.specs.Counters.{counted, since}
 use Rattle.rules.specs.Calls.{perform}
 use Rattle.rules.specs.promises.Changes.{SameLengths}
+use Rattle.rules.specs.promises.Shapes.{InArea}
 use Rattle.rules.specs.ledger.Ledger.{grantsAt}
 use Rattle.rules.specs.ledger.Lists.{Item, State, isRefused, startOf, after, admitted, frameOfPage, lastPinFrame, grantsAnswered, isDone, isCountedRefusal, SameList, seen}
 
@@ -128,7 +129,14 @@ pub record CountersRight (start : State) (items : List Item) : Type 0 where
       since (after start items .counters .refused) (after start before .counters .refused) ≡
       grantsAnswered isCountedRefusal (after start before) between
 
--- (7) a run of the same calls agrees with this one in every answer, but for the words that reads of the chosen names give, in the counters and in
+-- (7) no frame of an area holds a fixed page: none is put there, none moves there, and no area is declared where one stands
+pub record FixedOutside (s : State) : Type 0 where
+  pub outside :
+      (p area : ℕ) →
+      p < s .machine .memory .frames →
+      kindOf (markAt (s .own) (place p)) ≡ fixed → InArea (s .machine) (s .machine .memory .base .0 + p) area → ⊥
+
+-- (8) a run of the same calls agrees with this one in every answer, but for the words that reads of the chosen names give, in the counters and in
 -- the bytes of every report
 pub record RunsAgree (start start′ : State) (items : List Item) : Type 0 where
   pub agree : (chosen : ℕ → Bool) (items′ : List Item) → SameList chosen items items′ → seen chosen start items ≡ seen chosen start′ items′
@@ -168,9 +176,10 @@ pub record Demand3 (b : Boot) (items : List Item) : Type 0 where
   pub deviceWords : DeviceWordsRight (after (startOfBoot b) items)
   pub owners : OwnersRight (after (startOfBoot b) items)
   pub counters : CountersRight (startOfBoot b) items
+  pub fixed : FixedOutside (after (startOfBoot b) items)
   pub runs : (c : Boot) → SameBoot b c → RunsAgree (startOfBoot b) (startOfBoot c) items
 
 -- the theorem: every accepted boot, whatever its numbers, text, record and tables, and every list after it that document 01 admits. The second
--- run of (7) needs no such hypotheses of its own
+-- run of (8) needs no such hypotheses of its own
 abbrev pub Theorem : Type 0
 Theorem = (b : Boot) (items : List Item) → isRefused (outcomeOfBoot b) ≡ false → admitted (startOfBoot b) items ≡ true → Demand3 b items

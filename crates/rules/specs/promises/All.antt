@@ -6,7 +6,7 @@ use Rattle.rules.specs.promises.Devices.{AcceptedDeviceStore, AcceptedDe
 use Rattle.rules.specs.promises.Grants.{GrantIsFirstFit}
 use Rattle.rules.specs.promises.Moves.{AcceptedGrant}
 use Rattle.rules.specs.promises.Numbers.{RefusedExactly, RefusalHasZeros, BootAnswersPlace}
-use Rattle.rules.specs.promises.Pages.{AcceptedPutMovable, AcceptedPutFixed, LiveIfStands, AcceptedDrop, AcceptedPin, AcceptedUnpin, AcceptedStore, AcceptedRead, StoreThenRead, PinnedPagesStay}
+use Rattle.rules.specs.promises.Pages.{FreeIsMeant, AcceptedPutMovable, AcceptedPutFixed, LiveIfStands, AcceptedDrop, AcceptedPin, AcceptedUnpin, AcceptedStore, AcceptedRead, StoreThenRead, PinnedPagesStay}
 use Rattle.rules.specs.promises.Releases.{AcceptedRelease, FreedRoomIsUsed}
 use Rattle.rules.specs.promises.Reports.{ReportFigures, ReportLines, AcceptedReport, ReportWithoutWords}
 use Rattle.rules.specs.promises.Rounded.{AmountsRound, LimitRounds}
@@ -24,6 +24,7 @@ pub record AllPromises : Type 0 where
   pub counts : AcceptedCounts
   pub bytes : BytesBeside
   pub owners : OwnersStay
+  pub free : FreeIsMeant
   pub put-movable : AcceptedPutMovable
   pub put-fixed : AcceptedPutFixed
   pub live : LiveIfStands

@@ -2,20 +2,20 @@
 use Prim.Native.Nat.{ℕ, _+_, _%_, _^_, _≤_, _<_}
 use mathlib.Core.Path.{_≡_}
 use mathlib.Core.Logic.{_⊎_, _↔_}
-use mathlib.Core.Bool.{true, false, _||_}
+use mathlib.Core.Bool.{true, false, not, _&&_, _||_}
 use lib.Dec.{eqb, ltb}
 use Rattle.search.specs.Search.{howMany}
 use Rattle.answer.specs.Answers.{done}
 use Rattle.bitmap.specs.Bits.{isClear}
-use Rattle.frames.specs.Units.{place, bit}
+use Rattle.frames.specs.Units.{frame, place, bit}
 use Rattle.frames.specs.Marks.{free, movable}
-use Rattle.frames.specs.Areas.{bitCount, bitsFor, frameOfBit}
+use Rattle.frames.specs.Areas.{holdsFrame, bitCount, bitsFor, frameOfBit}
 use Rattle.frames.specs.Tables.{Tables}
 use Rattle.rules.specs.declared.Record.{Record}
 use Rattle.rules.specs.Record.{areaAt}
 use Rattle.rules.specs.Limits.{mostAlignOrder}
 use Rattle.rules.specs.Shape.{shapeWrong}
-use Rattle.rules.specs.PageCalls.{freeOrdinary}
+use Rattle.rules.specs.PageCalls.{freeOrdinary, freeInArea}
 use Rattle.rules.specs.DeviceCalls.{isUnknown, badDevice, bitmapOf, placeOfBit, grant}
 use Rattle.rules.specs.promises.Changes.{kindAt}
 
@@ -23,9 +23,16 @@ use Rattle.rules.specs.promises.Changes.{kindAt}
 abbrev pub movableIn : Tables → ℕ → ℕ → ℕ
 movableIn t p d = howMany (λ q. eqb (kindAt t q) 1) p d
 
--- how many frames below place r are free and ordinary
-abbrev pub freeBelow : Record → Tables → ℕ → ℕ
-freeBelow m t r = howMany (λ q. freeOrdinary m t (place q)) 0 r
+-- how many frames below place r are free and ordinary; how many are free and in an area, but not in area i
+abbrev pub ordinaryBelow : Record → Tables → ℕ → ℕ
+ordinaryBelow m t r = howMany (λ q. freeOrdinary m t (place q)) 0 r
+
+abbrev pub elsewhereBelow : Record → Tables → ℕ → ℕ → ℕ
+elsewhereBelow m t i r = howMany (λ q. freeInArea m t (place q) && not (holdsFrame (areaAt m i) (frame (m .memory .base .0 + q)))) 0 r
+
+-- the free ordinary frames and the free frames of the other areas together
+abbrev pub roomFor : Record → Tables → ℕ → ℕ
+roomFor m t i = ordinaryBelow m t (m .memory .frames) + elsewhereBelow m t i (m .memory .frames)
 
 module _ (m : Record) (t : Tables) (i count alignOrder : ℕ) where
   -- bit j of area i starts a candidate: its physical frame is a multiple of 2^alignOrder, and its bits lie in the area and are clear
@@ -52,9 +59,9 @@ module _ (m : Record) (t : Tables) (i count alignOrder : ℕ) where
   abbrev pub NoRun : Type 0
   NoRun = (j : ℕ) → Grantable j → ⊥
 
-  -- the first grantable candidate has more movable frames than there are free ordinary frames
+  -- the first grantable candidate has more movable frames than there are free ordinary frames and free frames of the other areas together
   abbrev pub NoTargets : Type 0
-  NoTargets = (j : ℕ) × FirstGrantable j × (freeBelow m t (m .memory .frames) < moved j)
+  NoTargets = (j : ℕ) × FirstGrantable j × (roomFor m t i < moved j)
 
   -- the checks before the search pass
   pub record Asked (device : ℕ) : Type 0 where
@@ -62,12 +69,12 @@ module _ (m : Record) (t : Tables) (i count alignOrder : ℕ) where
     pub arguments : (isUnknown (m .memory) i || eqb count 0 || ltb mostAlignOrder alignOrder || badDevice device) ≡ false
 
   pub record GrantAnswers (device : ℕ) : Type 0 where
-    -- accepted with frame f and n moved just if the first grantable candidate has that frame and n movable frames, and n or more free ordinary
-    -- frames are there
+    -- accepted with frame f and n moved just if the first grantable candidate has that frame and n movable frames, and there is room for n
+    -- or more
     pub accepted :
         (f n : ℕ) →
         (grant m i count alignOrder device t .answer ≡ done f n) ↔
-        ((j : ℕ) × FirstGrantable j × (frameOfBit (areaAt m i) (bit j) .0 ≡ f) × (moved j ≡ n) × (n ≤ freeBelow m t (m .memory .frames)))
+        ((j : ℕ) × FirstGrantable j × (frameOfBit (areaAt m i) (bit j) .0 ≡ f) × (moved j ≡ n) × (n ≤ roomFor m t i))
     -- 7 exactly if there is no run, 8 exactly if the pages of the first have nowhere to go
     pub no-run : (grant m i count alignOrder device t .answer .refusal ≡ 7) ↔ NoRun
     pub no-target : (grant m i count alignOrder device t .answer .refusal ≡ 8) ↔ NoTargets

@@ -10,7 +10,7 @@ use Rattle.frames.specs.Marks.{markOf, movable, pinned, fixed}
 use Rattle.frames.specs.Tables.{Tables, markAt, wordAt}
 use Rattle.rules.specs.declared.Record.{Record}
 use Rattle.rules.specs.Outcomes.{Outcome, outcome}
-use Rattle.rules.specs.PageCalls.{isLive, putMovable, putFixed, dropPage, pinPage, unpinPage, pageHas, storePage, readPage}
+use Rattle.rules.specs.PageCalls.{freeOrdinary, freeInArea, isLive, putMovable, putFixed, dropPage, pinPage, unpinPage, pageHas, storePage, readPage}
 use Rattle.rules.specs.promises.Changes.{kindAt, fieldAt, OnlyPage}
 use Rattle.rules.specs.promises.Shapes.{InArea}
 
@@ -26,6 +26,11 @@ pub record FreeInArea (m : Record) (t : Tables) (p : ℕ) : Type 0 where
   pub in-memory : p < m .memory .frames
   pub is-free : kindAt t p ≡ 0
   pub in-area : (i : ℕ) × InArea m (m .memory .base .0 + p) i
+
+-- the two tests, by which such frames are sought and counted, say just that of every place
+pub record FreeIsMeant : Type 0 where
+  pub ordinary : (m : Record) (t : Tables) (p : ℕ) → p < m .memory .frames → (freeOrdinary m t (place p) ≡ true) ↔ FreeOrdinary m t p
+  pub in-area : (m : Record) (t : Tables) (p : ℕ) → p < m .memory .frames → (freeInArea m t (place p) ≡ true) ↔ FreeInArea m t p
 
 abbrev pub NoneFreeOrdinary : Record → Tables → Type 0
 NoneFreeOrdinary m t = (p : ℕ) → FreeOrdinary m t p → ⊥

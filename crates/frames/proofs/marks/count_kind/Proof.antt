@@ -3,6 +3,7 @@
 use Prim.Native.Nat.{_-_, _≤_, _+_}
 use native.Mathlib.Omega.{arith}
 use mathlib.Core.Path.{_∙_}
+use mathlib.Core.Logic.{⊎-elim}
 use borrow.Author.Needs.{needs}
 use lib.ListN.{getD}
 use Rattle.frames.specs.Scans.{marked, bitsAre}
@@ -52,7 +53,9 @@ returns : tie.Need-returns Inv-loop μ-loop
 returns c =
     let x = c .before .before .before .before .args in
     count-end (c .before .loop .inv .1) _ (omega arith)
-    (λ k a b. past-end (bitsAre (x .mask) (x .kind)) (x .marks .now) k (omega arith) ∙ no-bits (x .mask) (x .kind) (c .before .before .before .before .pre))
+    (λ k a b.
+    ⊎-elim (λ h. past-end (bitsAre (x .mask) (x .kind)) (x .marks .now) k (omega arith) ∙ no-bits (x .mask) (x .kind) h) (λ h. absurd (omega arith))
+    (c .before .before .before .before .pre))
 
 pub count-kind-spec : {M : Type 1} → statement M
 count-kind-spec =
