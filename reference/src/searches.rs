@@ -103,9 +103,9 @@ pub fn past_many_areas(puts: u64) -> Vec<u8> {
 }
 
 /// An area of 1,000 frames is full of movable pages. It is granted: 88 pages go to
-/// the ordinary frames and 912 to sixty other areas, declared in mixed order. Then
-/// these are granted one by one, and their pages go back; and so on, with no
-/// ordinary frame free from then on.
+/// the ordinary frames and 912 to the lowest of sixty other areas, declared in mixed
+/// order. Then these are granted one by one, and their pages go back; and so on, with
+/// no ordinary frame free from then on.
 pub fn moves_between_areas(times: u64) -> Vec<u8> {
     const AREAS: u64 = 60;
     const LENGTH: u64 = 16;

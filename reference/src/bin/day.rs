@@ -3,8 +3,8 @@
 //! fixed SEED CALLS` the same with the first of them fixed near the lowest frames,
 //! `day pins GRANTS` and the same with `dense`, `bits` or `aligned` those of
 //! grants that find no run, `day between PUTS` those of puts past areas that stand
-//! between ordinary frames, `day moves TIMES` those of 1,000 pages that go from one
-//! area to sixty others and back.
+//! between ordinary frames, `day moves TIMES` those of pages that go from one area
+//! to others among sixty and back.
 
 use std::env;
 use std::io::{self, Write};
