@@ -1,11 +1,13 @@
 // What every call answers: document 01's section "Numbers the clerk sees".
+#![tactic(auto)]
+
 ghost use Rattle.std.specs.Prelude.{◌≡◌};
 ghost use Rattle.answer.specs.Answers.{done, refused, refused_at};
 
 pub mod refusal;
 
 // A refusal's number, or 0 where the call is done, and two numbers.
-#[derive(Drop)]
+#[derive(Clone, Copy)]
 pub struct Answer {
     pub refusal: u64,
     pub first: u64,

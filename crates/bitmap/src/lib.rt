@@ -1,6 +1,8 @@
 // Bits of lent 64-bit words: a run of them tested, set or cleared. Bit j of a bitmap is bit j mod 64, lowest first, of its word j / 64;
 // several bitmaps share the words, each from a word of its own, `start`. A run is walked by words, so no bit number is ever computed
 // that could be too large. Past the words' end a bit is clear, and there is nothing to change.
+#![tactic(auto)]
+
 ghost use Rattle.std.specs.Prelude.{◌+◌, ◌-◌, ◌*◌, ◌/◌, ◌^◌, ◌≤◌, ◌<◌, min, ◌≡◌};
 ghost use Rattle.bitmap.specs.Bits.{change_bits, set_bits, clear_bits};
 ghost use Rattle.bitmap.specs.Steps.Words.{bits_of, change_in, put_in};

@@ -10,14 +10,14 @@ ghost use Rattle.bitmap.specs.Steps.Looks.{wanted_in, Smears, Hits, Finds};
 use crate::{in_word, word_of};
 
 // How many bits were passed, and how many words looked at.
-#[derive(Drop)]
+#[derive(Clone, Copy)]
 pub struct Found {
     pub bits: usize,
     pub looks: usize,
 }
 
 // A word, and the count of looks with that at this word.
-#[derive(Drop)]
+#[derive(Clone, Copy)]
 struct Seen {
     word: u64,
     looks: usize,

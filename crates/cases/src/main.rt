@@ -3,6 +3,8 @@
 // A case NAME has its records in NAME.rec and the whole output, heading and last line included, in NAME.out. The names stand one a line in
 // cases.txt. Those in cuts.txt are played at every length, from no byte to all of them, and their outputs stand one after the other. Those
 // in texts.txt have regions texts in NAME.txt, one a line.
+#![tactic(auto)]
+
 ghost use Rattle.std.specs.Prelude.{◌≡◌, ◌+◌, ◌-◌, ◌≤◌, length};
 ghost use Rattle.cases.specs.Steps.Tallies.{most_file, Counted};
 
@@ -18,7 +20,7 @@ use text::writing::put_bytes;
 const MOST_FILE: usize = 65536;
 
 // How a case is played: its records whole, or at every length; or its regions texts, one by one.
-#[derive(Drop)]
+#[derive(Clone, Copy)]
 enum Way {
     Whole,
     EveryLength,
@@ -26,7 +28,7 @@ enum Way {
 }
 
 // How many cases were played, and how many of them gave something else than expected.
-#[derive(Drop)]
+#[derive(Clone, Copy)]
 struct Tally {
     cases: u64,
     failed: u64,

@@ -2,6 +2,8 @@
 //
 // Each takes any record, as its memory and its areas' numbers, any other numbers and any tables, and checks the shape first. A refused
 // call has changed nothing.
+#![tactic(auto)]
+
 ghost use Rattle.std.specs.Prelude.{◌≡◌, take};
 ghost use Rattle.frames.specs.Lent.{entering, leaving, lent_now};
 ghost use Rattle.rules.specs.Outcomes.{Passed};

@@ -15,7 +15,7 @@ use rules::Memory;
 
 // What is searched for, and where: the area, the first word of its bitmap, the run's bits and frames, the last bit that leaves it room, how
 // far apart the bits stand that it may begin at (2^order), and a word that has those set.
-#[derive(Drop)]
+#[derive(Clone, Copy)]
 pub(crate) struct Wanted {
     pub(crate) area: Area,
     pub(crate) start: usize,
@@ -28,7 +28,7 @@ pub(crate) struct Wanted {
 
 // A run that was tried: how many bits from there on are ruled out, none where it can be granted; and the bit up to which all behind them are
 // known to be clear.
-#[derive(Drop)]
+#[derive(Clone, Copy)]
 pub(crate) struct Tried {
     pub(crate) passed: usize,
     pub(crate) clear_to: usize,

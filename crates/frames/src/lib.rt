@@ -1,4 +1,6 @@
 // Page frames, the areas that are reserved among them, and the marks that say what each frame holds.
+#![tactic(auto)]
+
 mod areas;
 mod fills;
 pub mod kinds;
@@ -18,20 +20,20 @@ pub use targets::{Seeking, has_free_outside, next_target};
 pub use units::{frame_at, place_of};
 
 // A physical frame number.
-#[derive(Drop)]
+#[derive(Clone, Copy)]
 pub struct Frame(pub u64);
 
 // A place in the tables: the physical frame less the machine's first.
-#[derive(Drop)]
+#[derive(Clone, Copy)]
 pub struct Place(pub usize);
 
 // A bit number in an area's bitmap, from 0.
-#[derive(Drop)]
+#[derive(Clone, Copy)]
 pub struct Bit(pub usize);
 
 // A reserved area: its first frame, its count of frames, and the order of its pages per bit, 2^order_per_bit (Linux's name; document
 // 01's k).
-#[derive(Drop)]
+#[derive(Clone, Copy)]
 pub struct Area {
     pub base: Frame,
     pub count: u64,

@@ -15,14 +15,14 @@ use crate::walk::{Stretch, earlier_place, later_place};
 use crate::{Area, Frame, Place};
 
 // The last place found in the other areas, and which area of the order has it: those before it have no free place from there on.
-#[derive(Drop)]
+#[derive(Clone, Copy)]
 pub(crate) struct Others {
     pub(crate) from: Place,
     pub(crate) next: usize,
 }
 
 // A search for one target after the other: the last that was found, and how far memory is passed, the ordinary places and the other areas.
-#[derive(Drop)]
+#[derive(Clone, Copy)]
 pub struct Seeking {
     pub(crate) to: Place,
     pub(crate) ordinary: Stretch,

@@ -9,7 +9,7 @@ use crate::units::place_of;
 use crate::{Frame, Place};
 
 // Some places in a row: the first, and the one after the last. The areas before `next`, in their order, end before them.
-#[derive(Drop)]
+#[derive(Clone, Copy)]
 pub(crate) struct Stretch {
     pub(crate) from: Place,
     pub(crate) end: Place,

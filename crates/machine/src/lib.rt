@@ -4,6 +4,8 @@
 // and the numbers of its areas where they were lent, so that no call but a boot, which plans in numbers of its own, copies them. A refused call has
 // changed nothing, but that a grant counts. What a call does stands in `page_calls`, `device_calls`, `setup` and `report`; the counters are looked
 // after here.
+#![tactic(auto)]
+
 ghost use Rattle.std.specs.Prelude.{◌≡◌, []};
 ghost use Rattle.frames.specs.Lent.{entering};
 ghost use Rattle.rules.specs.declared.Call.TheVariants as Call;
@@ -17,14 +19,14 @@ use rules::{Call, Counters, Memory, Record, Request};
 
 // A machine is its record, but for the numbers of its areas, which are lent beside the tables. Methods can only stand in the crate of their
 // type, and those of the memory and the counters stand below the rules that are stated of them; so the calls are methods of this one.
-#[derive(Drop)]
+#[derive(Clone, Copy)]
 pub struct Machine {
     pub memory: Memory,
     pub counters: Counters,
 }
 
 // What a call hands back: the next record, with the areas as they were left, and the answer.
-#[derive(Drop)]
+#[derive(Clone, Copy)]
 pub struct Returned {
     pub machine: Machine,
     pub answer: Answer,

@@ -2,6 +2,8 @@
 //
 // Each takes any record, any number and any tables, and checks the shape first. None changes the record, so each hands back its answer
 // alone. A refused call has changed nothing.
+#![tactic(auto)]
+
 ghost use Rattle.std.specs.Prelude.{◌≡◌, true, ◌<◌};
 ghost use Rattle.frames.specs.Lent.{entering, lent_now};
 ghost use Rattle.frames.specs.Marks.{kinds};
@@ -21,7 +23,7 @@ use shape::shape_right;
 const EMPTY: u64 = 0;
 
 // What a call finds of the page that it names: where it stands, or why the call is refused.
-#[derive(Drop)]
+#[derive(Clone, Copy)]
 enum Found {
     At(Place),
     Not(u64),

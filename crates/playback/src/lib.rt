@@ -1,4 +1,6 @@
 // Document 01, "Replay records": records answered on lent tables, one or many, with a line of text for each.
+#![tactic(auto)]
+
 ghost use Rattle.std.specs.Prelude.{◌≡◌, true, ◌+◌, ◌≤◌, length};
 ghost use Rattle.frames.specs.Units.{most_number};
 ghost use Rattle.frames.specs.Lent.{entering, leaving};
@@ -24,7 +26,7 @@ const LAST_STEP: u64 = u64::MAX;
 
 // How far the records are answered: the machine's record with its counters, the place of the next replay record among the bytes, the length of the
 // text so far, and the number of replay records.
-#[derive(Drop)]
+#[derive(Clone, Copy)]
 pub struct Progress {
     pub record: Record,
     pub counters: Counters,
@@ -34,7 +36,7 @@ pub struct Progress {
 }
 
 // The same but for the numbers of the areas, which stay in one place from call to call: what each call hands on.
-#[derive(Drop)]
+#[derive(Clone, Copy)]
 struct Going {
     machine: Machine,
     at: usize,
@@ -43,7 +45,7 @@ struct Going {
 }
 
 // Why no more records were answered.
-#[derive(Drop)]
+#[derive(Clone, Copy)]
 pub enum Stop {
     // Every byte is read.
     All,
@@ -55,7 +57,7 @@ pub enum Stop {
     Full,
 }
 
-#[derive(Drop)]
+#[derive(Clone, Copy)]
 pub struct Stopped {
     pub progress: Progress,
     pub why: Stop,

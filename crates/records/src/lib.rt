@@ -1,5 +1,7 @@
 // Document 01, "Replay records", with the devices of document 02, request (vii): the call that a record stands for, read from bytes,
 // and in `lines` the text that is written for it.
+#![tactic(auto)]
+
 ghost use Rattle.std.specs.Prelude.{◌≡◌, ◌+◌, ◌≤◌, ◌<◌, length};
 ghost use Rattle.records.specs.Records.{little, body_length, body_at, decode_at};
 
@@ -9,7 +11,7 @@ use frames::Frame;
 use rules::{Call, Request};
 
 // What stands at an offset.
-#[derive(Drop)]
+#[derive(Clone, Copy)]
 pub enum Decoded {
     // The call of a whole record, and the record's length with the byte of kind. A boot has the empty text.
     Whole(Call, usize),

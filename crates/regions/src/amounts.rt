@@ -9,7 +9,7 @@ use text::Scan;
 use text::numbers::{MOST_BYTES, number};
 
 // What a number is for: what it may not be goes by this.
-#[derive(Drop)]
+#[derive(Clone, Copy)]
 pub enum Purpose {
     Size,
     Start,

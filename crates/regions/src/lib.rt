@@ -1,4 +1,6 @@
 // The regions text: which areas a boot declares.
+#![tactic(auto)]
+
 ghost use Rattle.std.specs.Prelude.{◌≡◌};
 ghost use Rattle.regions.specs.Amounts.{is_alignment};
 ghost use Rattle.regions.specs.Text.{regions};
@@ -19,7 +21,7 @@ pub const MOST_TEXT: usize = 8192;
 pub const MOST_REGIONS: usize = 64;
 
 // A region of the text: where its name stands and how long it is, and its amounts in bytes; an amount that is not given is 0.
-#[derive(Drop)]
+#[derive(Clone, Copy)]
 pub struct Region {
     pub name: usize,
     pub length: usize,
@@ -29,7 +31,7 @@ pub struct Region {
 }
 
 // What a text gives: its regions, or its refusal's number and place. Entries after the count are all zero, and so are all where it is refused.
-#[derive(Drop)]
+#[derive(Clone, Copy)]
 pub struct Regions {
     pub refusal: u64,
     pub place: usize,
@@ -55,7 +57,7 @@ pub fn is_alignment(x: u64) -> bool
 }
 
 // A reader of regions: it keeps hold of the text and of how far it has read it, so of its place, the offset where it reads on.
-#[derive(Drop)]
+#[derive(Clone, Copy)]
 struct Reader<'a> {
     text: &'a [u8],
     progress: Progress,

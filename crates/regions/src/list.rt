@@ -72,7 +72,7 @@ fn with(known: Regions, region: Region) -> Regions
 }
 
 // How far a text is read: the regions so far and where the next is read from, or, with no more to read, what the text gives.
-#[derive(Drop)]
+#[derive(Clone, Copy)]
 pub struct Progress {
     pub known: Regions,
     pub next: usize,

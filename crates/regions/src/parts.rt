@@ -13,7 +13,7 @@ use text::Scan;
 use text::bytes::byte_at;
 
 // What reading a region gives: the region and the offset after it, or a refusal's number and its place.
-#[derive(Drop)]
+#[derive(Clone, Copy)]
 pub enum Found {
     Gives(Region, usize),
     Refuses(u64, usize),

@@ -2,6 +2,8 @@
 //
 // The input comes in blocks, and a record that a block cuts is moved to the front of the next. The tables live in `main`, and each call is
 // lent as much of them as its machine has frames.
+#![tactic(auto)]
+
 ghost use Rattle.std.specs.Prelude.{◌≡◌, ◌+◌, ◌≤◌, ◌<◌, length};
 ghost use Rattle.replay.specs.Steps.Bounds.{block, Bounds, Next};
 
@@ -18,7 +20,7 @@ const BLOCK: usize = 65536;
 const TURNS: u64 = 140737488355328;
 
 // What is kept from turn to turn.
-#[derive(Drop)]
+#[derive(Clone, Copy)]
 struct State {
     record: Record,
     counters: Counters,

@@ -2,6 +2,8 @@
 //
 // Each area is looked at once: its line is written to a place of the function's own while the sums are made, which stand in the lines before it.
 // The lines go to the caller's buffer when all are known, and only where all have room.
+#![tactic(auto)]
+
 ghost use Rattle.std.specs.Prelude.{◌+◌, ◌*◌, ◌≤◌, ◌≡◌, ◌++◌, length};
 ghost use Rattle.search.specs.Search.{longest};
 ghost use Rattle.bitmap.specs.Bits.{is_clear};
@@ -28,7 +30,7 @@ const LINES: usize = Area::MOST * LINE;
 const SUMS: usize = 128;
 
 // What is known of the areas: their frames, how many of them are not granted, and the length of their lines.
-#[derive(Drop)]
+#[derive(Clone, Copy)]
 struct Listed {
     total: u64,
     free: u64,

@@ -1,5 +1,7 @@
 // The plain data of a machine, the rules of document 01 as definitions over it, and what is proved of them: the promises in plain quantifiers,
 // and the ledger of demand 3 over every list of calls. The contracts of the crates above cite these definitions.
+#![tactic(auto)]
+
 ghost use Rattle.std.specs.Prelude.{◌≡◌};
 ghost use Rattle.rules.specs.Counters.{no_grants, after_grant, after_boot, since};
 ghost use Rattle.rules.specs.Record.{fresh_record};
@@ -8,7 +10,7 @@ use answer::refusal;
 use frames::{Area, Frame};
 
 // What a record says of memory, but for its areas' numbers.
-#[derive(Drop)]
+#[derive(Clone, Copy)]
 pub struct Memory {
     // The first physical frame (document 01's P).
     pub base: Frame,
@@ -22,7 +24,7 @@ pub struct Memory {
 
 // The machine record, which each call takes and hands back, but for its counters: its memory by value, and the numbers of its areas lent, so that
 // no call but a boot copies them. They are one flat array: a slice of numbers is proved with no walk of the code, and a slice of structs is not.
-#[derive(Drop)]
+#[derive(Clone, Copy)]
 pub struct Record {
     pub memory: Memory,
     pub areas: [u64; Record::AREA_NUMBERS],
@@ -80,7 +82,7 @@ impl Record {
 
 // The record's counters since the last accepted boot: how many grants were accepted, and how many were refused with another number than that of
 // the wrong shape. They wrap on purpose after 4,294,967,295. No call but a grant and a boot changes them, and none looks at them.
-#[derive(Drop)]
+#[derive(Clone, Copy)]
 pub struct Counters {
     pub granted: u32,
     pub refused: u32,
@@ -136,7 +138,7 @@ pub fn since(later: u32, earlier: u32) -> u32
 
 // What a declaration asks for: amounts in bytes, the order of the pages per bit (document 01's k), and whether the base is where the area
 // must begin.
-#[derive(Drop)]
+#[derive(Clone, Copy)]
 pub struct Request {
     pub base: u64,
     pub size: u64,
@@ -147,7 +149,7 @@ pub struct Request {
 }
 
 // A call with its numbers. A boot's text and a report's buffer are lent beside it, since an enum holds no reference.
-#[derive(Drop)]
+#[derive(Clone, Copy)]
 pub enum Call {
     PutMovable {
         name: u64,

@@ -14,7 +14,7 @@ use rules::{Memory, Record, Request};
 
 // A request's amounts as the search takes them: the alignment with a block at the least, base, size and limit rounded to it, and
 // the limit cut to the end of memory.
-#[derive(Drop)]
+#[derive(Clone, Copy)]
 pub struct Rounded {
     pub alignment: u64,
     pub base: u64,

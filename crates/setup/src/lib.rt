@@ -1,5 +1,7 @@
 // Declaring areas: where an area goes, and the record and bitmap that know of it afterwards; and boot, which declares those of a regions
 // text.
+#![tactic(auto)]
+
 ghost use Rattle.std.specs.Prelude.{◌≡◌, ◌≤◌, length};
 ghost use Rattle.frames.specs.Areas.{word_count, first_word};
 ghost use Rattle.frames.specs.Tables.{fill};
@@ -22,7 +24,7 @@ use shape::shape_right;
 use start::{is_bootable, plan_text};
 
 // What a declaration or a boot hands back. The areas' numbers of the record stand where they were lent.
-#[derive(Drop)]
+#[derive(Clone, Copy)]
 pub struct Laid {
     pub memory: Memory,
     pub answer: Answer,

@@ -20,14 +20,14 @@ use frames::{Area, Frame, Place, area_at, frame_at, place_of};
 use rules::{Memory, Record, Request};
 
 // What a declaration comes to: the area, or why it is refused.
-#[derive(Drop)]
+#[derive(Clone, Copy)]
 pub enum Plan {
     Made(Area),
     Not(u64),
 }
 
 // Frames in a row that an area holds: the first, and the one after the last.
-#[derive(Drop)]
+#[derive(Clone, Copy)]
 struct Held {
     from: Frame,
     end: Frame,

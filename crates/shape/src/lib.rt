@@ -1,5 +1,7 @@
 // The shape of a record and of the tables lent with it, for any field values and any lengths. Every call but boot checks it first, so the
 // record's areas are lent, and none is copied.
+#![tactic(auto)]
+
 ghost use Rattle.std.specs.Prelude.{◌+◌, ◌≤◌, min, max, ◌≡◌, true};
 ghost use Rattle.search.specs.Search.{every};
 ghost use Rattle.frames.specs.Areas.{area_in, end_of, are_disjoint};
@@ -13,14 +15,14 @@ use frames::{Area, Frame, area_at, first_word};
 use rules::{Memory, Record};
 
 // Room for areas: frames in a row that none passed so far holds, the first, and the one after the last.
-#[derive(Drop)]
+#[derive(Clone, Copy)]
 struct Room {
     from: Frame,
     end: Frame,
 }
 
 // What is found of one area: whether it is apart from those before it and, if it is, a room that is free of it too.
-#[derive(Drop)]
+#[derive(Clone, Copy)]
 struct Judged {
     apart: bool,
     room: Room,

@@ -1,0 +1,25 @@
+-- `frames::areas::first_word` meets its contract: the words of the areas passed, up to the largest number. Assumes nothing.
+use Prim.Native.Nat.{◌-◌, ◌≤◌, min}
+use native.Mathlib.Omega.{arith}
+use mathlib.Core.Path.{◌≡◌}
+use borrow.Author.Rules.{rules}
+use Rattle.frames.specs.Units.{most_number}
+use Rattle.frames.specs.Areas.{first_word}
+use Rattle.frames.proofs.AreaFacts.{first_word_zero, first_word_next, first_word_clip}
+use Rattle.frames.proofs.areas.first_word.Goals as goal
+
+pub loop-before-init : goal.loop-before-init
+loop-before-init c = (omega arith, omega (arith, first_word_zero c.args.areas.now))
+
+pub loop-before-preserved : goal.loop-before-preserved
+loop-before-preserved c =
+    let areas = c.args.areas.now in
+    let at = c.loop-before in
+    let words = rw c.area_at-area.ensures at c.words-words.ensures in
+    (omega arith, omega (arith, at.invariant.1, first_word_next areas at.before, c.sum_or_most-word.ensures, words))
+
+pub returns : goal.returns
+returns c =
+    let x = c.args in
+    let at = c.loop-before in
+    omega (arith, at.invariant.1, first_word_clip x.areas.now x.i at.before (omega arith))

@@ -1,0 +1,12 @@
+-- `frames::fills::fill_places` meets its contract: what is left to fill falls by one place a turn. Assumes nothing.
+use Prim.Native.Nat.{◌-◌}
+use native.Mathlib.Omega.{arith}
+use borrow.Author.Rules.{rules}
+use Rattle.frames.proofs.FillFacts.{Filling, filling_start, filling_turn, filling_end}
+use Rattle.frames.proofs.fills.fill_places.Given as goal
+
+abbrev pub invariant-loop-i : goal.invariant-loop-i
+invariant-loop-i l = Filling l.initial.table l.initial.i l.count l.value l.table l.i
+
+abbrev pub decreases-loop-i : goal.decreases-loop-i
+decreases-loop-i l = l.end - l.i

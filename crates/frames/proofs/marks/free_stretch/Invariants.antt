@@ -1,0 +1,23 @@
+-- `frames::marks::free_stretch` meets its contract: stretch by stretch of the ordinary places. Assumes nothing.
+use Prim.Native.Nat.{ℕ, ◌-◌, ◌≤◌}
+use native.Mathlib.Omega.{arith}
+use mathlib.Core.Path.{◌≡◌, ◌∙◌}
+use borrow.Author.Rules.{rules}
+use Rattle.search.specs.Search.{lowest_from}
+use Rattle.search.proofs.Lowest.{Least, lowest_least}
+use Rattle.frames.specs.Marks.{has_kind, free}
+use Rattle.frames.specs.Scans.{marked, is_free_ordinary}
+use Rattle.frames.specs.Orders.{in_use, Ordered}
+use Rattle.frames.specs.Walk.{Behind}
+use Rattle.frames.proofs.Stuck.{seek_free}
+use Rattle.frames.proofs.ScanFacts.{Seeking, seek_start, seek_end}
+use Rattle.frames.proofs.StretchFacts.{stretch_hit, stretch_skip}
+use Rattle.frames.proofs.marks.free_stretch.Given as goal
+
+abbrev pub invariant-loop-i : goal.invariant-loop-i
+invariant-loop-i l =
+    (n : ℕ) → Ordered l.areas (in_use l.areas n) l.order → l.k ≤ in_use l.areas n → Behind l.base l.areas l.order l.len l.initial.i l.k
+    → Seeking (is_free_ordinary l.marks l.base l.areas n) l.initial.i l.len l.i × (l.next ≤ in_use l.areas n) × Behind l.base l.areas l.order l.len l.i l.next
+
+abbrev pub decreases-loop-i : goal.decreases-loop-i
+decreases-loop-i l = l.len - l.i

@@ -1,0 +1,14 @@
+-- `frames::marks::kind_in` meets its contract: what is left to search is the range from `i` on; a block that has none is passed. Assumes nothing.
+use Prim.Native.Nat.{◌+◌, ◌-◌, ◌≤◌}
+use native.Mathlib.Omega.{arith}
+use mathlib.Core.Path.{sym, ◌∙◌}
+use Rattle.search.proofs.Ranges.{some_no}
+use Rattle.frames.specs.Scans.{marked, has_bits}
+use Rattle.frames.proofs.ScanFacts.{Seeking, seek_start, seek_skip}
+use Rattle.frames.proofs.marks.kind_in.Given as goal
+
+abbrev pub invariant-loop-i : goal.invariant-loop-i
+invariant-loop-i l = (l.i ≤ l.end.0) × Seeking (marked (has_bits l.any l.mask) l.marks) l.initial.i l.end.0 l.i
+
+abbrev pub decreases-loop-i : goal.decreases-loop-i
+decreases-loop-i l = l.last - l.i

@@ -1,0 +1,18 @@
+-- `frames::marks::less_free` meets its contract: what is left of the number after the rest of the range. Assumes nothing.
+use Prim.Native.Nat.{ℕ, ◌-◌, ◌≤◌}
+use native.Mathlib.Omega.{arith}
+use mathlib.Core.Path.{◌≡◌, refl, ap, ◌∙◌}
+use mathlib.Core.Logic.{inr}
+use borrow.Author.Rules.{rules}
+use Rattle.search.specs.Search.{how_many}
+use Rattle.frames.specs.Marks.{has_kind, free}
+use Rattle.frames.specs.Scans.{marked}
+use Rattle.frames.proofs.Stuck.{count_free}
+use Rattle.frames.proofs.ScanFacts.{Taking, take_part, take_done, take_rest}
+use Rattle.frames.proofs.marks.less_free.Given as goal
+
+abbrev pub invariant-loop-i : goal.invariant-loop-i
+invariant-loop-i l = (l.i ≤ l.last) × Taking (marked (has_kind free) l.marks) l.initial.i l.last l.least l.left l.i
+
+abbrev pub decreases-loop-i : goal.decreases-loop-i
+decreases-loop-i l = l.last - l.i

@@ -1,0 +1,58 @@
+-- `frames::walk::next_stretch` meets its contract: area after area, in their order, until one begins after the place. Assumes nothing.
+use Prim.Native.Nat.{ℕ, ◌-◌, ◌≤◌, min, max}
+use native.Mathlib.Nat.{le_refl}
+use native.Mathlib.Omega.{arith}
+use mathlib.Core.Path.{◌≡◌, refl, ap, ◌∙◌}
+use lib.ListN.{get_or}
+use Rattle.frames.specs.declared.Area.{Area}
+use Rattle.frames.specs.declared.Place.{Place}
+use Rattle.frames.specs.Areas.{end_of, area_in}
+use Rattle.frames.specs.Orders.{in_use, Ordered}
+use Rattle.frames.specs.Walk.{Behind}
+use Rattle.frames.proofs.Walks.{Underway, underway_start, underway_on, underway_stop, underway_end}
+use Rattle.frames.proofs.walk.next_stretch.Goals as goal
+
+pub loop-next-init : goal.loop-next-init
+loop-next-init c = let x = c.args in (omega arith, omega (arith, c.requires), λ n ord few passed. underway_start x.base x.areas.now n x.order x.end.0 ord x.at.0 x.k c.requires few passed)
+
+pub returns-then-from-start : goal.returns-then-from-start
+returns-then-from-start c =
+    let area-is : c.area_at-area.result ≡ area_in c.args.areas.now (get_or c.args.order.list c.loop-next.next 0) = c.area_at-area.ensures ∙ ap (area_in c.args.areas.now) c.nth.ensures in
+    let x = c.args in
+    let g = c.loop-next.invariant in
+    let ends = c.earlier_place.ensures in
+    let begins = ap (λ (p : Place). p.0) c.place_of-start.ensures ∙ ap (λ (a : Area). a.base.0 - x.base.0) area-is in record {
+      within = record { low = g.0; ordered = omega (arith, g.1, c.if-from-start.true); more = omega (arith, g.0, g.1, c.if-from-start.true, c.requires); high = omega arith };
+      walks_on = λ n ord few passed.
+          underway_stop x.base x.areas.now n x.order x.end.0 ord x.at.0 (g.2 n ord few passed)
+          (omega (arith, ord.count, c.loop-next-test.true)) (omega (arith, begins, c.if-from-start.true)) _ refl (ends ∙ ap (λ (s : ℕ). min s x.end.0) begins) refl;
+    }
+
+pub overflow_add-next : goal.overflow_add-next
+overflow_add-next c = omega arith
+
+pub loop-next-smaller : goal.loop-next-smaller
+loop-next-smaller c = omega arith
+
+pub loop-next-preserved : goal.loop-next-preserved
+loop-next-preserved c =
+    let area-is : c.area_at-area.result ≡ area_in c.args.areas.now (get_or c.args.order.list c.loop-next.next 0) = c.area_at-area.ensures ∙ ap (area_in c.args.areas.now) c.nth.ensures in
+    let x = c.args in
+    let g = c.loop-next.invariant in
+    let begins = ap (λ (p : Place). p.0) c.place_of-start.ensures ∙ ap (λ (a : Area). a.base.0 - x.base.0) area-is in
+    let ends = c.end_place.ensures ∙ ap (λ (a : Area). min (end_of a - x.base.0) x.end.0) area-is in (
+      omega (arith, g.0, c.later_place-from.ensures),
+      omega (arith, g.1, c.later_place-from.ensures, ends),
+      λ n ord few passed.
+          underway_on x.base x.areas.now n x.order x.end.0 ord x.at.0 (g.2 n ord few passed)
+          (omega (arith, ord.count, c.loop-next-test.true)) (omega (arith, begins, c.if-from-start.false)) _ (c.later_place-from.ensures ∙ ap (max c.loop-next.from.0) ends),
+    )
+
+pub returns : goal.returns
+returns c =
+    let x = c.args in
+    let g = c.loop-next.invariant in record {
+      within = record { low = g.0; ordered = g.1; more = c.requires; high = le_refl _ };
+      walks_on = λ n ord few passed.
+          underway_end x.base x.areas.now n x.order x.end.0 ord x.at.0 (g.2 n ord few passed) (omega (arith, ord.count, c.loop-next-test.false)) _ refl refl refl;
+    }

@@ -1,0 +1,25 @@
+-- `text::numbers::digits_end` meets its contract: the search of the definition goes on from i. Assumes nothing.
+use lib.Dec.{ltb}
+use Rattle.text.specs.Bytes.{byte_at, digit_of}
+use Rattle.text.specs.Numbers.{is_digit, digits_end}
+use Rattle.search.proofs.Lowest.{lowest_here, lowest_next, lowest_end}
+use Rattle.search.specs.Search.{lowest_from}
+use lib.ListN.{length}
+use mathlib.Core.Path.{◌≡◌, refl, sym, ap, ◌∙◌}
+use mathlib.Core.List.{List}
+use mathlib.Core.Bool.{Bool, true, false, not}
+use native.Mathlib.Omega.{arith}
+use Prim.Native.Nat.{ℕ, ◌-◌}
+use borrow.Author.Tests.{le-ltb, lt-ltb}
+use borrow.Author.Rules.{rules}
+use Rattle.text.proofs.numbers.digits_end.Given as goal
+
+-- no digit of the base stands there
+abbrev pub ends : List ℕ → ℕ → ℕ → Bool
+ends text base i = not (is_digit base (byte_at text i))
+
+abbrev pub invariant-loop-i : goal.invariant-loop-i
+invariant-loop-i l = digits_end l.base l.text l.at ≡ lowest_from (ends l.text l.base) l.i (length l.text - l.i)
+
+abbrev pub decreases-loop-i : goal.decreases-loop-i
+decreases-loop-i l = length l.text - l.i
