@@ -1,0 +1,6 @@
+-- `regions::list::refused` meets its contract: every entry is the zero region. Assumes nothing.
+use borrow.Author.Rules.{rules}
+use Rattle.regions.proofs.list.refused.Goals as goal
+
+pub returns : goal.returns
+returns c = rw c.no_region-none.ensures
