@@ -11,8 +11,7 @@ use Rattle.search.proofs.Bools.{below_or_not}
 use Rattle.frames.specs.declared.Area.{Area}
 use Rattle.frames.specs.Areas.{end_of, are_disjoint}
 use Rattle.shape.proofs.Disjoint.{ends_below}
-use Rattle.shape.proofs.apart.Statement.{statement}
-use Rattle.shape.proofs.apart.Tie as tie
+use Rattle.shape.proofs.apart.Goals as goal
 
 -- the area whose first frame is the lower, or the same, must end there; an empty one that begins with it does so too
 inside : (a c : Area) → a.base.0 < c.base.0 → c.base.0 < end_of a → are_disjoint a c ≡ false
@@ -30,20 +29,14 @@ above a c h =
     (λ l. simp (lt-leb (end_of a) c.base.0 (omega arith), lt-leb (end_of c) a.base.0 l, lt-leb c.count (a.base.0 - c.base.0) (omega arith)))
     (λ l. simp (lt-leb (end_of a) c.base.0 (omega arith), le-leb (end_of c) a.base.0 l, le-leb c.count (a.base.0 - c.base.0) (omega arith)))
 
-returns : tie.Need-returns
-returns c = let x = c.before.before.before.before.before.before.before.args in sym (ends_below x.a x.c (omega arith))
+pub returns-then-a-c-2 : goal.returns-then-a-c-2
+returns-then-a-c-2 c = let x = c.args in sym (ends_below x.a x.c (omega arith))
 
-returns-2 : tie.Need-returns-2
-returns-2 c = let x = c.before.before.before.before.before.before.before.before.before.before.args in sym (inside x.a x.c (omega arith) (omega arith))
+pub returns-then-a-c-3 : goal.returns-then-a-c-3
+returns-then-a-c-3 c = let x = c.args in sym (inside x.a x.c (omega arith) (omega arith))
 
-returns-3 : tie.Need-returns-3
-returns-3 c = let x = c.before.before.before.before.before.before.before.before.before.before.before.args in sym (together x.a x.c (omega arith) (omega arith))
+pub returns-then-a-c : goal.returns-then-a-c
+returns-then-a-c c = let x = c.args in sym (together x.a x.c (omega arith) (omega arith))
 
-sub-result : tie.Need-overflow-sub-result
-sub-result c = search rules
-
-returns-4 : tie.Need-returns-4
-returns-4 c = let x = c.before.before.before.before.before.before.args in sym (above x.a x.c (omega arith))
-
-pub apart-spec : {M : Type 1} → statement M
-apart-spec = tie.close (tie.spec returns returns-2 returns-3 sub-result returns-4)
+pub returns : goal.returns
+returns c = let x = c.args in sym (above x.a x.c (omega arith))
