@@ -48,10 +48,10 @@ judge-judged-requires c =
     let area = area_in c.args.areas.now c.loop-i.i in
     let facts = right_facts (record_with c.args.memory c.args.areas.now) area is_right in
     let low : end_of area ≤ most_end = omega (arith, facts.high, (memory_known _ _ _ c.requires).end_high) in
-    ((c.area_at-a.ensures, rw c.area_at-a.ensures low), (rw c.area_at-a.ensures (does_lie area _ facts.low facts.high, facts.some), c.loop-i.invariant.2))
+    record { a_value = (c.area_at-a.ensures, rw c.area_at-a.ensures low); all_value = rw c.area_at-a.ensures (does_lie area _ facts.low facts.high, facts.some); free = c.loop-i.invariant.2 }
 
 pub returns-then-not-judged : goal.returns-then-not-judged
-returns-then-not-judged c = sym (every_stops _ c.loop-i.i _ c.loop-i-test.true (not-apart _ _ (sym c.judge-judged.ensures.apart ∙ not-true _ (ap not c.if-not-judged.true))))
+returns-then-not-judged c = sym (every_stops _ c.loop-i.i _ c.loop-i-test.true (not-apart _ _ (sym c.judge-judged.ensures.apart ∙ not-true _ c.if-not-judged.true)))
 
 pub overflow_add-i : goal.overflow_add-i
 overflow_add-i c = omega arith
@@ -64,8 +64,8 @@ unfolding area_fits
 loop-i-preserved c =
     let is_right : area_right c.args.memory (area_in c.args.areas.now c.loop-i.i) ≡ true = sym (rw c.area_at-a.ensures at c.area_right.ensures) ∙ not-false _ (ap not c.if-not-area_right.false) in (
       omega arith,
-      every_up _ c.loop-i.i c.loop-i.invariant.1 (and_both _ _ is_right (sym c.judge-judged.ensures.apart ∙ not-false _ (ap not c.if-not-judged.false))),
-      c.judge-judged.ensures.free (not-false _ (ap not c.if-not-judged.false)),
+      every_up _ c.loop-i.i c.loop-i.invariant.1 (and_both _ _ is_right (sym c.judge-judged.ensures.apart ∙ not-false _ c.if-not-judged.false)),
+      c.judge-judged.ensures.free (not-false _ c.if-not-judged.false),
     )
 
 pub returns : goal.returns
