@@ -5,7 +5,8 @@
 #![tactic(auto)]
 
 ghost use Rattle.std.specs.Prelude.{◌≡◌, take};
-ghost use Rattle.frames.specs.Lent.{entering, leaving, lent_now};
+ghost use Rattle.frames.specs.Tables.{tables};
+ghost use Rattle.frames.specs.Lent.{slice_of};
 ghost use Rattle.rules.specs.Outcomes.{Passed};
 ghost use Rattle.rules.specs.DeviceCalls.{device_store, device_read, free_run, release, take_run, grant_checks, grant};
 ghost use Rattle.rules.specs.Does.{record_with, given, Answers};
@@ -40,7 +41,7 @@ pub fn device_store(
     word: u64,
     device: u64,
 ) -> Answer
-    ensures { Answers (λ m. device_store m frame word device) memory areas result marks words bitmap owners }
+    ensures { Answers (λ m. device_store m frame word device) memory areas result marks (slice_of words) bitmap owners }
 {
     let number = device_refusal(memory, areas, marks, words, bitmap, owners, frame, device);
     if number != refusal::NONE {
@@ -86,8 +87,8 @@ fn free_run(
     frame: Frame,
     count: u64,
 )
-    requires { RangeFits (record_with memory areas.now) (lent_now marks words bitmap owners) area frame count }
-    ensures { leaving marks words bitmap owners ≡ free_run (given memory areas) (entering marks words bitmap owners) area frame count }
+    requires { RangeFits (record_with memory areas.now) (tables marks.old words.old bitmap.old owners.old) area frame count }
+    ensures { tables marks.new words.new bitmap.new owners.new ≡ free_run (given memory areas) (tables marks.old words.old bitmap.old owners.old) area frame count }
 {
     let a = area_at(areas, area as usize);
     let start = bitmap_start(areas, area);
@@ -113,7 +114,7 @@ pub fn release(
     count: u64,
     device: u64,
 ) -> Answer
-    ensures { Answers (λ m. release m area frame count device) memory areas result marks words bitmap owners }
+    ensures { Answers (λ m. release m area frame count device) memory areas result (slice_of marks) (slice_of words) (slice_of bitmap) (slice_of owners) }
 {
     let number = release_refusal(
         memory, areas, marks, words, bitmap, owners, area, frame, count, device,
@@ -140,8 +141,8 @@ fn take_run(
     run: Bit,
     device: u32,
 )
-    requires { RunFits (record_with memory areas.now) (lent_now marks words bitmap owners) area count run }
-    ensures { leaving marks words bitmap owners ≡ take_run (given memory areas) (entering marks words bitmap owners) area count run device }
+    requires { RunFits (record_with memory areas.now) (tables marks.old words.old bitmap.old owners.old) area count run }
+    ensures { tables marks.new words.new bitmap.new owners.new ≡ take_run (given memory areas) (tables marks.old words.old bitmap.old owners.old) area count run device }
 {
     let a = area_at(areas, area as usize);
     let start = bitmap_start(areas, area);
@@ -166,8 +167,8 @@ fn grant_lowest(
     align: u64,
     device: u64,
 ) -> Answer
-    requires { Passed (take 2 (grant_checks (record_with memory areas.now) area count align device (lent_now marks words bitmap owners))) }
-    ensures { Answers (λ m. grant m area count align device) memory areas result marks words bitmap owners }
+    requires { Passed (take 2 (grant_checks (record_with memory areas.now) area count align device (tables marks.old words.old bitmap.old owners.old))) }
+    ensures { Answers (λ m. grant m area count align device) memory areas result (slice_of marks) (slice_of words) (slice_of bitmap) (slice_of owners) }
 {
     let a = area_at(areas, area as usize);
     let run = find_run(memory, areas, marks, bitmap, area, count, align);
@@ -208,7 +209,7 @@ pub fn grant(
     align: u64,
     device: u64,
 ) -> Answer
-    ensures { Answers (λ m. grant m area count align device) memory areas result marks words bitmap owners }
+    ensures { Answers (λ m. grant m area count align device) memory areas result (slice_of marks) (slice_of words) (slice_of bitmap) (slice_of owners) }
 {
     let number = request_refusal(
         memory, areas, marks, words, bitmap, owners, area, count, align, device,

@@ -3,7 +3,7 @@
 use Rattle.std.specs.Prelude.{ℕ, ◌&&◌, not, List, ◌≡◌}
 use Rattle.search.specs.Choice.{if◌then◌else◌}
 use Rattle.frames.specs.Tables.{Tables}
-use Rattle.frames.specs.Lent.{Slice}
+use Rattle.frames.specs.Lent.{MutSlice, slice_of}
 use Rattle.rules.specs.declared.Call.{Call}
 use Rattle.rules.specs.declared.Record.{Record}
 use Rattle.rules.specs.Outcomes.{Outcome}
@@ -15,17 +15,17 @@ use Rattle.machine.specs.declared.Machine.{Machine}
 use Rattle.machine.specs.declared.Returned.{Returned}
 
 -- a method makes a call, which does so to the rest of the record, and counts it
-abbrev pub Makes : Call → (Record → Tables → Outcome) → Machine → Slice → Returned → Slice → Slice → Slice → Slice → Type 0
+abbrev pub Makes : Call → (Record → Tables → Outcome) → Machine → MutSlice → Returned → MutSlice → MutSlice → MutSlice → MutSlice → Type 0
 Makes call does m areas r marks words bitmap owners =
-    Returns does m.memory areas r.machine.memory r.answer marks words bitmap owners ×
+    Returns does m.memory (slice_of areas) r.machine.memory r.answer (slice_of marks) (slice_of words) (slice_of bitmap) (slice_of owners) ×
     (r.machine.counters ≡ counted call r.answer.refusal m.counters)
 
 -- a method does what a call does, with these bytes beside it
-abbrev pub Does : Call → List ℕ → Machine → Slice → Returned → Slice → Slice → Slice → Slice → Type 0
+abbrev pub Does : Call → List ℕ → Machine → MutSlice → Returned → MutSlice → MutSlice → MutSlice → MutSlice → Type 0
 Does call bytes = Makes call (perform call bytes)
 
 -- one that may write among the numbers of the areas is to be lent those of all
-abbrev pub DoesWithAll : Call → List ℕ → Machine → Slice → Returned → Slice → Slice → Slice → Slice → Type 0
+abbrev pub DoesWithAll : Call → List ℕ → Machine → MutSlice → Returned → MutSlice → MutSlice → MutSlice → MutSlice → Type 0
 DoesWithAll call bytes = Makes call (with_all_areas (perform call bytes))
 
 -- of a text and a buffer, the bytes beside a call are a report's buffer, and for every other call the text

@@ -7,10 +7,10 @@
 #![tactic(auto)]
 
 ghost use Rattle.std.specs.Prelude.{◌≡◌, []};
-ghost use Rattle.frames.specs.Lent.{entering};
+ghost use Rattle.frames.specs.Tables.{tables};
 ghost use Rattle.rules.specs.declared.Call.TheVariants as Call;
 ghost use Rattle.rules.specs.Report.{reported};
-ghost use Rattle.rules.specs.Does.{given};
+ghost use Rattle.rules.specs.Does.{record_with, given};
 ghost use Rattle.machine.specs.Does.{Does, DoesWithAll, beside, buffer_after};
 
 use answer::{Answer, refusal};
@@ -377,7 +377,7 @@ impl Machine {
         buffer: &mut [u8],
     ) -> Returned
         ensures does { Does Call.Report buffer.old self areas result marks words bitmap owners }
-        ensures buffer_after { buffer.new ≡ reported (given self.memory areas) buffer.old (entering marks words bitmap owners) }
+        ensures buffer_after { buffer.new ≡ reported (record_with self.memory areas.old) buffer.old (tables marks.old words.old bitmap.old owners.old) }
     {
         let answer = report::report(self.memory, areas, marks, words, bitmap, owners, buffer);
         Returned {
@@ -400,7 +400,7 @@ impl Machine {
         buffer: &mut [u8],
     ) -> Returned
         ensures does_with_all { DoesWithAll call (beside call text.now buffer.old) self areas result marks words bitmap owners }
-        ensures buffer_after { buffer.new ≡ buffer_after call buffer.old (given self.memory areas) (entering marks words bitmap owners) }
+        ensures buffer_after { buffer.new ≡ buffer_after call buffer.old (record_with self.memory areas.old) (tables marks.old words.old bitmap.old owners.old) }
     {
         if areas.len() != Record::AREA_NUMBERS {
             return Returned {

@@ -5,7 +5,8 @@
 #![tactic(auto)]
 
 ghost use Rattle.std.specs.Prelude.{◌≡◌, true, ◌<◌};
-ghost use Rattle.frames.specs.Lent.{entering, lent_now};
+ghost use Rattle.frames.specs.Tables.{tables};
+ghost use Rattle.frames.specs.Lent.{entering, lent_now, slice_of};
 ghost use Rattle.frames.specs.Marks.{kinds};
 ghost use Rattle.rules.specs.PageCalls.{bad_name, put_at, put_page, put_movable, put_fixed, drop_page, change_kind, pin_page, unpin_page, store_page, read_page};
 ghost use Rattle.rules.specs.Shape.{shape_right};
@@ -99,9 +100,9 @@ fn put_new(
     name: u64,
     kind: u32,
 ) -> Answer
-    requires owners_value { look_up (record_with memory areas.now) name (lent_now marks words bitmap owners) ≡ Not 3 }
+    requires owners_value { look_up (record_with memory areas.now) name (tables marks.old words.old bitmap.now owners.now) ≡ Not 3 }
     requires kind_lt_kinds { kind < kinds }
-    ensures { Answers (λ m. put_page kind m name) memory areas result marks words bitmap owners }
+    ensures { Answers (λ m. put_page kind m name) memory areas result (slice_of marks) (slice_of words) bitmap owners }
 {
     let page = put_at(memory, areas, marks, words, bitmap, owners, kind);
     let at = page.0;
@@ -127,7 +128,7 @@ fn put_page(
     kind: u32,
 ) -> Answer
     requires { kind < kinds }
-    ensures { Answers (λ m. put_page kind m name) memory areas result marks words bitmap owners }
+    ensures { Answers (λ m. put_page kind m name) memory areas result (slice_of marks) (slice_of words) bitmap owners }
 {
     let found = look_up(memory, areas, marks, words, bitmap, owners, name);
     match found {
@@ -151,7 +152,7 @@ pub fn put_movable(
     owners: &[u32],
     name: u64,
 ) -> Answer
-    ensures { Answers (λ m. put_movable m name) memory areas result marks words bitmap owners }
+    ensures { Answers (λ m. put_movable m name) memory areas result (slice_of marks) (slice_of words) bitmap owners }
 {
     put_page(memory, areas, marks, words, bitmap, owners, name, MOVABLE)
 }
@@ -166,7 +167,7 @@ pub fn put_fixed(
     owners: &[u32],
     name: u64,
 ) -> Answer
-    ensures { Answers (λ m. put_fixed m name) memory areas result marks words bitmap owners }
+    ensures { Answers (λ m. put_fixed m name) memory areas result (slice_of marks) (slice_of words) bitmap owners }
 {
     put_page(memory, areas, marks, words, bitmap, owners, name, FIXED)
 }
@@ -181,7 +182,7 @@ pub fn drop_page(
     owners: &[u32],
     name: u64,
 ) -> Answer
-    ensures { Answers (λ m. drop_page m name) memory areas result marks words bitmap owners }
+    ensures { Answers (λ m. drop_page m name) memory areas result (slice_of marks) (slice_of words) bitmap owners }
 {
     let found = look_up(memory, areas, marks, words, bitmap, owners, name);
     match found {
@@ -212,7 +213,7 @@ fn change_kind(
     to: u32,
 ) -> Answer
     requires { to < kinds }
-    ensures { Answers (λ m. change_kind from to m name) memory areas result marks words bitmap owners }
+    ensures { Answers (λ m. change_kind from to m name) memory areas result (slice_of marks) words bitmap owners }
 {
     let found = look_up(memory, areas, marks, words, bitmap, owners, name);
     match found {
@@ -239,7 +240,7 @@ pub fn pin_page(
     owners: &[u32],
     name: u64,
 ) -> Answer
-    ensures { Answers (λ m. pin_page m name) memory areas result marks words bitmap owners }
+    ensures { Answers (λ m. pin_page m name) memory areas result (slice_of marks) words bitmap owners }
 {
     change_kind(
         memory, areas, marks, words, bitmap, owners, name, MOVABLE, PINNED,
@@ -256,7 +257,7 @@ pub fn unpin_page(
     owners: &[u32],
     name: u64,
 ) -> Answer
-    ensures { Answers (λ m. unpin_page m name) memory areas result marks words bitmap owners }
+    ensures { Answers (λ m. unpin_page m name) memory areas result (slice_of marks) words bitmap owners }
 {
     change_kind(
         memory, areas, marks, words, bitmap, owners, name, PINNED, MOVABLE,
@@ -274,7 +275,7 @@ pub fn store_page(
     name: u64,
     word: u64,
 ) -> Answer
-    ensures { Answers (λ m. store_page m name word) memory areas result marks words bitmap owners }
+    ensures { Answers (λ m. store_page m name word) memory areas result marks (slice_of words) bitmap owners }
 {
     let found = look_up(memory, areas, marks, words, bitmap, owners, name);
     match found {

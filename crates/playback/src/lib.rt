@@ -2,8 +2,8 @@
 #![tactic(auto)]
 
 ghost use Rattle.std.specs.Prelude.{◌≡◌, true, ◌+◌, ◌≤◌, length};
+ghost use Rattle.frames.specs.Tables.{tables};
 ghost use Rattle.frames.specs.Units.{most_number};
-ghost use Rattle.frames.specs.Lent.{entering, leaving};
 ghost use Rattle.rules.specs.Limits.{most_area_numbers};
 ghost use Rattle.playback.specs.Playback.{stopped_at, has_room_for, playing, answer_one, played, answer_records};
 ghost use Rattle.playback.specs.Steps.Going.{progress_with};
@@ -106,7 +106,7 @@ fn answer_one(
     size: usize,
 ) -> Going
     requires { (has_room_for (length out.old) p.text p.step ≡ true) × (p.at + size ≤ most_number) × (length areas.old ≡ most_area_numbers) }
-    ensures { playing (progress_with result areas.new) out.new (leaving marks words bitmap owners) ≡ answer_one (playing (progress_with p areas.old) out.old (entering marks words bitmap owners)) call size }
+    ensures { playing (progress_with result areas.new) out.new (tables marks.new words.new bitmap.new owners.new) ≡ answer_one (playing (progress_with p areas.old) out.old (tables marks.old words.old bitmap.old owners.old)) call size }
 {
     let before = p.machine;
     let returned = answer(areas, marks, words, bitmap, owners, before, call);
@@ -131,7 +131,7 @@ pub fn answer_records(
     owners: &mut [u32],
     start: Progress,
 ) -> Stopped
-    ensures { played result out.new (leaving marks words bitmap owners) ≡ answer_records bytes.now (playing start out.old (entering marks words bitmap owners)) }
+    ensures { played result out.new (tables marks.new words.new bitmap.new owners.new) ≡ answer_records bytes.now (playing start out.old (tables marks.old words.old bitmap.old owners.old)) }
 {
     let mut areas = start.record.areas;
     let memory = start.record.memory;

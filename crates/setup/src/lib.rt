@@ -3,9 +3,10 @@
 #![tactic(auto)]
 
 ghost use Rattle.std.specs.Prelude.{◌≡◌, ◌≤◌, length};
+ghost use Rattle.frames.specs.Lent.{slice_of};
 ghost use Rattle.frames.specs.Areas.{word_count, first_word};
 ghost use Rattle.frames.specs.Tables.{fill};
-ghost use Rattle.rules.specs.Does.{Returns, with_all_areas};
+ghost use Rattle.rules.specs.Does.{given, Returns, with_all_areas};
 ghost use Rattle.rules.specs.Declare.{declare};
 ghost use Rattle.rules.specs.Boot.{boot};
 
@@ -62,7 +63,7 @@ pub fn declare(
     owners: &[u32],
     request: Request,
 ) -> Laid
-    ensures { Returns (with_all_areas (λ m. declare m request)) memory areas result.memory result.answer marks words bitmap owners }
+    ensures { Returns (with_all_areas (λ m. declare m request)) memory (slice_of areas) result.memory result.answer marks words (slice_of bitmap) owners }
 {
     if areas.len() != Record::AREA_NUMBERS {
         return Laid {
@@ -105,7 +106,7 @@ pub fn boot(
     block_order: u64,
     text: &[u8],
 ) -> Laid
-    ensures { Returns (with_all_areas (λ m t. boot m base.0 frames block_order text.now t)) memory areas result.memory result.answer marks words bitmap owners }
+    ensures { Returns (with_all_areas (λ m t. boot m base.0 frames block_order text.now t)) memory (slice_of areas) result.memory result.answer (slice_of marks) (slice_of words) (slice_of bitmap) (slice_of owners) }
 {
     let bare = Memory {
         base,

@@ -90,7 +90,7 @@ pub(crate) fn plan_area(
 // A record has one more area: the numbers of its areas where they are lent, and its memory as it is handed back.
 pub(crate) fn with_area(memory: Memory, areas: &mut [u64], area: Area) -> Memory
     requires { memory.declared < most_areas }
-    ensures { record_with result areas.new ≡ with_area (given memory areas) area }
+    ensures { record_with result areas.new ≡ with_area (record_with memory areas.old) area }
 {
     let base = memory.base;
     set_area(areas, memory.declared as usize, area);

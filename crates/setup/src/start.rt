@@ -4,7 +4,7 @@ ghost use Rattle.regions.specs.Text.{most_regions};
 ghost use Rattle.regions.specs.Steps.Progress.{held};
 ghost use Rattle.rules.specs.Limits.{most_area_numbers};
 ghost use Rattle.rules.specs.Shape.{memory_right};
-ghost use Rattle.rules.specs.Does.{record_with, given};
+ghost use Rattle.rules.specs.Does.{record_with};
 ghost use Rattle.rules.specs.Boot.{request_of, declare_all, boot_record};
 ghost use Rattle.setup.specs.Steps.Boot.{clear_tables, IsBare, Starts};
 
@@ -68,7 +68,7 @@ fn plan_regions(
     requires bare { IsBare bare areas.old }
     requires marks_value { marks.now ≡ [] }
     requires regions_len { (length (held regions) ≡ regions.count) × (regions.count ≤ most_regions) }
-    ensures { Starts (declare_all (held regions) 0 (given bare areas) (clear_tables bare.frames (length bitmap.now))) (record_with result.memory areas.new) result.answer }
+    ensures { Starts (declare_all (held regions) 0 (record_with bare areas.old) (clear_tables bare.frames (length bitmap.now))) (record_with result.memory areas.new) result.answer }
 {
     let list = regions.list;
     let count = regions.count;

@@ -3,6 +3,7 @@
 #![tactic(auto)]
 
 ghost use Rattle.std.specs.Prelude.{◌+◌, ◌≤◌, min, max, ◌≡◌, true};
+ghost use Rattle.frames.specs.Tables.{tables};
 ghost use Rattle.search.specs.Search.{every};
 ghost use Rattle.frames.specs.Areas.{area_in, end_of, are_disjoint};
 ghost use Rattle.frames.specs.Lent.{entering};

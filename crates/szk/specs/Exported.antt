@@ -4,7 +4,7 @@ use Rattle.search.specs.Choice.{if◌then◌else◌}
 use Rattle.answer.specs.declared.Answer.{Answer}
 use Rattle.answer.specs.Answers.{refused}
 use Rattle.frames.specs.Tables.{Tables}
-use Rattle.frames.specs.Lent.{Slice, entering, leaving}
+use Rattle.frames.specs.Lent.{MutSlice, slice_of, entering, leaving}
 use Rattle.rules.specs.declared.Call.{Call}
 use Rattle.rules.specs.Counters.{counted}
 use Rattle.rules.specs.Outcomes.{Outcome}
@@ -47,10 +47,10 @@ exported call bytes l =
     else given_back call (perform call bytes (record_from l.numbers) l.tables) l
 
 -- a function leaves what an exported call makes of the six slices lent
-abbrev pub Exports : Call → List ℕ → Slice → Slice → Slice → Slice → Slice → Slice → Type 0
+abbrev pub Exports : Call → List ℕ → MutSlice → MutSlice → MutSlice → MutSlice → MutSlice → MutSlice → Type 0
 Exports call bytes numbers marks words bitmap owners answer =
-    handed numbers.exit.now (leaving marks words bitmap owners) answer.exit.now ≡
-    exported call bytes (handed numbers.entry.now (entering marks words bitmap owners) answer.entry.now)
+    handed numbers.exit.now (leaving (slice_of marks) (slice_of words) (slice_of bitmap) (slice_of owners)) answer.exit.now ≡
+    exported call bytes (handed numbers.entry.now (entering (slice_of marks) (slice_of words) (slice_of bitmap) (slice_of owners)) answer.entry.now)
 
 -- the buffer after an exported call: as the call leaves its bytes, but as it was where a report's answer or record is too short
 abbrev pub buffer_left : Call → List ℕ → Handed → List ℕ

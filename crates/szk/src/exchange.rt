@@ -1,7 +1,7 @@
 // Every exported call: the lists that it is lent are judged, the call is performed on the record that they hold, and its outcome is given
 // back in them.
 ghost use Rattle.std.specs.Prelude.{◌≡◌, ◌≤◌, length};
-ghost use Rattle.frames.specs.Lent.{entering};
+ghost use Rattle.frames.specs.Tables.{tables};
 ghost use Rattle.machine.specs.Does.{beside};
 ghost use Rattle.szk.specs.Layout.{record_length, answer_length, own_numbers, answer_numbers, over};
 ghost use Rattle.szk.specs.Exported.{handed, Exports, buffer_left};
@@ -55,7 +55,7 @@ pub fn call(
     buffer: &mut [u8],
 )
     ensures exports { Exports call (beside call text.now buffer.old) numbers marks words bitmap owners answer }
-    ensures buffer_after { buffer.new ≡ buffer_left call buffer.old (handed numbers.old (entering marks words bitmap owners) answer.old) }
+    ensures buffer_after { buffer.new ≡ buffer_left call buffer.old (handed numbers.old (tables marks.old words.old bitmap.old owners.old) answer.old) }
 {
     if refuse_short(numbers, answer) {
         return;

@@ -1,9 +1,9 @@
 // The exported functions, one for each call: each makes its call of its numbers and hands it to `exchange::call`. Frames are physical frame
 // numbers. `szk_since` is no call: it is lent nothing.
 ghost use Rattle.std.specs.Prelude.{not, ◌≡◌, [], eqb};
+ghost use Rattle.frames.specs.Tables.{tables};
 ghost use Rattle.frames.specs.Units.{frame as frame_of};
 ghost use Rattle.rules.specs.declared.Call.TheVariants as Call;
-ghost use Rattle.frames.specs.Lent.{entering};
 ghost use Rattle.rules.specs.Counters.{since};
 ghost use Rattle.szk.specs.Exported.{handed, Exports, buffer_left};
 
@@ -422,7 +422,7 @@ pub extern "C" fn szk_report(
     buffer: &mut [u8],
 )
     ensures exports { Exports Call.Report buffer.old numbers marks words bitmap owners answer }
-    ensures buffer_after { buffer.new ≡ buffer_left Call.Report buffer.old (handed numbers.old (entering marks words bitmap owners) answer.old) }
+    ensures buffer_after { buffer.new ≡ buffer_left Call.Report buffer.old (handed numbers.old (tables marks.old words.old bitmap.old owners.old) answer.old) }
 {
     exchange::call(
         numbers,

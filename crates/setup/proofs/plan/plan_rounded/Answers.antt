@@ -1,0 +1,94 @@
+-- `setup::plan::plan_rounded` meets its contract: each test is one of the definition's, on the rounded amounts. Assumes nothing.
+use Rattle.setup.proofs.Plans.{rounded_some, rounded_fits, is_fixed_lem, plan_small, plan_limited, plan_above, plan_within, plan_short, plan_roomy}
+use Rattle.setup.specs.declared.place.Plan.{Plan}
+use Rattle.setup.specs.Steps.Plan.{rounded_for, plan_tables, plan_after}
+use Rattle.rules.specs.declared.Record.{Record}
+use Rattle.rules.specs.declared.Request.{Request}
+use Rattle.rules.specs.Does.{record_with}
+use Rattle.rules.proofs.Rounding.{asked}
+use Rattle.frames.specs.Tables.{Tables}
+use Prim.Native.Nat.{ℕ}
+use native.Mathlib.Omega.{arith}
+use mathlib.Core.Bool.{false}
+use mathlib.Core.List.{[]}
+use mathlib.Core.Path.{◌≡◌}
+use Rattle.setup.proofs.plan.plan_rounded.Goals as goal
+
+-- the plan that is left after so many checks is p
+abbrev Leaves : ℕ → Plan → goal.After-round-rounded → Tables → Type 0
+Leaves k p c t = p ≡ plan_after k (recordOf c) (requestOf c) t
+
+-- what a plan comes to after the checks, it comes to
+checked : (c : goal.Else-short) {p : Plan} → Leaves 7 p c (plan_tables tables_of.marks []) → Leaves 4 p c tables_of
+checked c placed = limited c limit-stays (within c limit-kept (roomy c c.if-short.false placed))
+
+-- ---- what is asked
+pub round-rounded-requires : goal.round-rounded-requires
+round-rounded-requires c = record { block_order_value = c.requires.block_order_value; request_value = c.requires.request_value }
+
+-- the sum of base and size does not wrap, as given or rounded
+pub overflow_add-end : goal.overflow_add-end
+overflow_add-end c =
+    let requestOf : Request = c.args.request in
+    let recordOf : Record = record_with c.args.memory c.args.areas.now in
+    let rounded : c.round-rounded.result ≡ rounded_for recordOf requestOf = c.round-rounded.ensures c.args.areas.now in
+    let given = asked requestOf c.requires.request_value in
+    let fits = rounded_fits recordOf requestOf rounded c.requires.block_order_value c.requires.request_value in
+    omega (arith, fits.base_high, fits.size_high, given.base_high, given.size_high)
+
+pub limit_vanishes-vanishes-requires : goal.limit_vanishes-vanishes-requires
+limit_vanishes-vanishes-requires c =
+    let requestOf : Request = c.args.request in
+    let recordOf : Record = record_with c.args.memory c.args.areas.now in
+    let rounded : c.round-rounded.result ≡ rounded_for recordOf requestOf = c.round-rounded.ensures c.args.areas.now in
+    rounded_some recordOf requestOf rounded
+
+pub returns-then-vanishes : goal.returns-then-vanishes
+returns-then-vanishes c =
+    let requestOf : Request = c.args.request in
+    let recordOf : Record = record_with c.args.memory c.args.areas.now in
+    let tables_of : Tables = plan_tables c.args.marks.now c.args.bitmap.now in
+    let rounded : c.round-rounded.result ≡ rounded_for recordOf requestOf = c.round-rounded.ensures c.args.areas.now in
+    plan_small recordOf requestOf tables_of rounded c.limit_vanishes-vanishes.ensures c.if-vanishes.true
+
+pub returns-then-above : goal.returns-then-above
+returns-then-above c =
+    let requestOf : Request = c.args.request in
+    let recordOf : Record = record_with c.args.memory c.args.areas.now in
+    let tables_of : Tables = plan_tables c.args.marks.now c.args.bitmap.now in
+    let rounded : c.round-rounded.result ≡ rounded_for recordOf requestOf = c.round-rounded.ensures c.args.areas.now in
+    let limit-stays : c.limit_vanishes-vanishes.result ≡ false = c.if-vanishes.false in
+    limited c limit-stays
+    (plan_above recordOf requestOf tables_of rounded c.is_fixed-fixed.ensures c.is_above_limit-above.ensures c.if-above.true)
+
+pub returns-then-short : goal.returns-then-short
+returns-then-short c =
+    let requestOf : Request = c.args.request in
+    let recordOf : Record = record_with c.args.memory c.args.areas.now in
+    let tables_of : Tables = plan_tables c.args.marks.now c.args.bitmap.now in
+    let rounded : c.round-rounded.result ≡ rounded_for recordOf requestOf = c.round-rounded.ensures c.args.areas.now in
+    let limit-stays : c.limit_vanishes-vanishes.result ≡ false = c.if-vanishes.false in
+    let limit-kept : c.is_above_limit-above.result ≡ false = c.if-above.false in
+    limited c limit-stays
+    (within c limit-kept (plan_short recordOf requestOf tables_of rounded c.lacks_room-short.ensures c.if-short.true))
+
+-- ---- the place
+pub plan_fixed-requires : goal.plan_fixed-requires
+plan_fixed-requires c =
+    let requestOf : Request = c.args.request in
+    let recordOf : Record = record_with c.args.memory c.args.areas.now in
+    let rounded : c.round-rounded.result ≡ rounded_for recordOf requestOf = c.round-rounded.ensures c.args.areas.now in
+    record { block_order_value = c.requires.block_order_value; request_value = c.requires.request_value; rounds = c.round-rounded.ensures; request_value_2 = is_fixed_lem recordOf requestOf rounded c.is_fixed-fixed.ensures c.if-fixed.true }
+
+pub returns-then-fixed : goal.returns-then-fixed
+returns-then-fixed c = checked c c.plan_fixed.ensures
+
+pub plan_highest-requires : goal.plan_highest-requires
+plan_highest-requires c =
+    let requestOf : Request = c.args.request in
+    let recordOf : Record = record_with c.args.memory c.args.areas.now in
+    let rounded : c.round-rounded.result ≡ rounded_for recordOf requestOf = c.round-rounded.ensures c.args.areas.now in
+    record { block_order_value = c.requires.block_order_value; request_value = c.requires.request_value; rounds = c.round-rounded.ensures; request_value_2 = is_fixed_lem recordOf requestOf rounded c.is_fixed-fixed.ensures c.if-fixed.false }
+
+pub returns : goal.returns
+returns c = checked c c.plan_highest.ensures
