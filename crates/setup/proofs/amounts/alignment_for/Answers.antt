@@ -15,7 +15,7 @@ pub overflow_shl-block : goal.overflow_shl-block
 overflow_shl-block c = omega arith
 
 pub returns-then-block-alignment : goal.returns-then-block-alignment
-returns-then-block-alignment c = omega (arith, block c.args.block-order (omega arith))
+returns-then-block-alignment c = omega (arith, block c.args.block_order (omega arith))
 
 pub returns : goal.returns
-returns c = omega (arith, block c.args.block-order (omega arith))
+returns c = omega (arith, block c.args.block_order (omega arith))

@@ -39,54 +39,54 @@ overflow_mul-start c =
 pub held_before-held-requires : goal.held_before-held-requires
 held_before-held-requires c =
     let fit : AmountsFit (rounded_for (record_with c.args.memory c.args.areas.now) c.args.request) = amounts_fit (record_with c.args.memory c.args.areas.now) c.args.request c.requires.block_order_value c.requires.request_value in
-    let try : Tried (record_with c.args.memory c.args.areas.now) c.args.request c.loop-high.high c.frame_of_byte-base.result.0 = let x = c.args in trying (record_with x.memory x.areas.now) x.request (plan_tables x.marks.now []) (c.requires.rounds x.areas.now) fit c.lowest_end-lowest.ensures (omega arith) (ap (λ (v : Frame). v.0) c.frame_of_byte-base.ensures) in
-    let below : c.frame_of_byte-base.result.0 + c.args.rounded.size / page_bytes ≤ c.loop-high.high / page_bytes = let x = c.args in tried_below (record_with x.memory x.areas.now) x.request (plan_tables x.marks.now []) (c.requires.rounds x.areas.now) fit c.loop-high.invariant.0 (try (c)) in
+    let tried : Tried (record_with c.args.memory c.args.areas.now) c.args.request c.loop-high.high c.frame_of_byte-base.result.0 = let x = c.args in trying (record_with x.memory x.areas.now) x.request (plan_tables x.marks.now []) (c.requires.rounds x.areas.now) fit c.lowest_end-lowest.ensures (omega arith) (ap (λ (v : Frame). v.0) c.frame_of_byte-base.ensures) in
+    let below : c.frame_of_byte-base.result.0 + c.args.rounded.size / page_bytes ≤ c.loop-high.high / page_bytes = let x = c.args in tried_below (record_with x.memory x.areas.now) x.request (plan_tables x.marks.now []) (c.requires.rounds x.areas.now) fit c.loop-high.invariant.0 tried in
     held_lower _ c.loop-high.invariant.1 below
 
 pub first_taken-taken-requires : goal.first_taken-taken-requires
 first_taken-taken-requires c =
     let fit : AmountsFit (rounded_for (record_with c.args.memory c.args.areas.now) c.args.request) = amounts_fit (record_with c.args.memory c.args.areas.now) c.args.request c.requires.block_order_value c.requires.request_value in
-    let try : Tried (record_with c.args.memory c.args.areas.now) c.args.request c.loop-high.high c.frame_of_byte-base.result.0 = let x = c.args in trying (record_with x.memory x.areas.now) x.request (plan_tables x.marks.now []) (c.requires.rounds x.areas.now) fit c.lowest_end-lowest.ensures (omega arith) (ap (λ (v : Frame). v.0) c.frame_of_byte-base.ensures) in
-    let inside : c.frame_of_byte-base.result.0 + c.args.rounded.size / page_bytes ≤ most_end = let x = c.args in tried_inside (record_with x.memory x.areas.now) x.request (plan_tables x.marks.now []) (c.requires.rounds x.areas.now) fit c.loop-high.invariant.0 (try (c)) in
-    (try.in_memory, omega (arith, inside))
+    let tried : Tried (record_with c.args.memory c.args.areas.now) c.args.request c.loop-high.high c.frame_of_byte-base.result.0 = let x = c.args in trying (record_with x.memory x.areas.now) x.request (plan_tables x.marks.now []) (c.requires.rounds x.areas.now) fit c.lowest_end-lowest.ensures (omega arith) (ap (λ (v : Frame). v.0) c.frame_of_byte-base.ensures) in
+    let inside : c.frame_of_byte-base.result.0 + c.args.rounded.size / page_bytes ≤ most_end = let x = c.args in tried_inside (record_with x.memory x.areas.now) x.request (plan_tables x.marks.now []) (c.requires.rounds x.areas.now) fit c.loop-high.invariant.0 tried in
+    (tried.in_memory, omega (arith, inside))
 
 pub overflow_add-base-in-loop-high : goal.overflow_add-base-in-loop-high
 overflow_add-base-in-loop-high c =
     let fit : AmountsFit (rounded_for (record_with c.args.memory c.args.areas.now) c.args.request) = amounts_fit (record_with c.args.memory c.args.areas.now) c.args.request c.requires.block_order_value c.requires.request_value in
-    let try : Tried (record_with c.args.memory c.args.areas.now) c.args.request c.loop-high.high c.frame_of_byte-base.result.0 = let x = c.args in trying (record_with x.memory x.areas.now) x.request (plan_tables x.marks.now []) (c.requires.rounds x.areas.now) fit c.lowest_end-lowest.ensures (omega arith) (ap (λ (v : Frame). v.0) c.frame_of_byte-base.ensures) in
-    let inside : c.frame_of_byte-base.result.0 + c.args.rounded.size / page_bytes ≤ most_end = let x = c.args in tried_inside (record_with x.memory x.areas.now) x.request (plan_tables x.marks.now []) (c.requires.rounds x.areas.now) fit c.loop-high.invariant.0 (try (c)) in
+    let tried : Tried (record_with c.args.memory c.args.areas.now) c.args.request c.loop-high.high c.frame_of_byte-base.result.0 = let x = c.args in trying (record_with x.memory x.areas.now) x.request (plan_tables x.marks.now []) (c.requires.rounds x.areas.now) fit c.lowest_end-lowest.ensures (omega arith) (ap (λ (v : Frame). v.0) c.frame_of_byte-base.ensures) in
+    let inside : c.frame_of_byte-base.result.0 + c.args.rounded.size / page_bytes ≤ most_end = let x = c.args in tried_inside (record_with x.memory x.areas.now) x.request (plan_tables x.marks.now []) (c.requires.rounds x.areas.now) fit c.loop-high.invariant.0 tried in
     omega (arith, inside)
 
 pub returns-then-base-count : goal.returns-then-base-count
 returns-then-base-count c =
     let fit : AmountsFit (rounded_for (record_with c.args.memory c.args.areas.now) c.args.request) = amounts_fit (record_with c.args.memory c.args.areas.now) c.args.request c.requires.block_order_value c.requires.request_value in
-    let try : Tried (record_with c.args.memory c.args.areas.now) c.args.request c.loop-high.high c.frame_of_byte-base.result.0 = let x = c.args in trying (record_with x.memory x.areas.now) x.request (plan_tables x.marks.now []) (c.requires.rounds x.areas.now) fit c.lowest_end-lowest.ensures (omega arith) (ap (λ (v : Frame). v.0) c.frame_of_byte-base.ensures) in
+    let tried : Tried (record_with c.args.memory c.args.areas.now) c.args.request c.loop-high.high c.frame_of_byte-base.result.0 = let x = c.args in trying (record_with x.memory x.areas.now) x.request (plan_tables x.marks.now []) (c.requires.rounds x.areas.now) fit c.lowest_end-lowest.ensures (omega arith) (ap (λ (v : Frame). v.0) c.frame_of_byte-base.ensures) in
     let look : ScannedIn (record_with c.args.memory c.args.areas.now) (plan_tables c.args.marks.now []) c.frame_of_byte-base.result.0 (c.args.rounded.size / page_bytes) c.first_taken-taken.result.0 = c.first_taken-taken.ensures _ _ c.held_before-held.ensures in
-    let x = c.args in tried_made (record_with x.memory x.areas.now) x.request (plan_tables x.marks.now []) (c.requires.rounds x.areas.now) fit c.loop-high.invariant.0 try look c.requires.request_value_2 c.if-base-count.true
+    let x = c.args in tried_made (record_with x.memory x.areas.now) x.request (plan_tables x.marks.now []) (c.requires.rounds x.areas.now) fit c.loop-high.invariant.0 tried look c.requires.request_value_2 c.if-base-count.true
 
 pub byte_of_frame-high-requires : goal.byte_of_frame-high-requires
 byte_of_frame-high-requires c =
     let fit : AmountsFit (rounded_for (record_with c.args.memory c.args.areas.now) c.args.request) = amounts_fit (record_with c.args.memory c.args.areas.now) c.args.request c.requires.block_order_value c.requires.request_value in
-    let try : Tried (record_with c.args.memory c.args.areas.now) c.args.request c.loop-high.high c.frame_of_byte-base.result.0 = let x = c.args in trying (record_with x.memory x.areas.now) x.request (plan_tables x.marks.now []) (c.requires.rounds x.areas.now) fit c.lowest_end-lowest.ensures (omega arith) (ap (λ (v : Frame). v.0) c.frame_of_byte-base.ensures) in
-    let inside : c.frame_of_byte-base.result.0 + c.args.rounded.size / page_bytes ≤ most_end = let x = c.args in tried_inside (record_with x.memory x.areas.now) x.request (plan_tables x.marks.now []) (c.requires.rounds x.areas.now) fit c.loop-high.invariant.0 (try (c)) in
+    let tried : Tried (record_with c.args.memory c.args.areas.now) c.args.request c.loop-high.high c.frame_of_byte-base.result.0 = let x = c.args in trying (record_with x.memory x.areas.now) x.request (plan_tables x.marks.now []) (c.requires.rounds x.areas.now) fit c.lowest_end-lowest.ensures (omega arith) (ap (λ (v : Frame). v.0) c.frame_of_byte-base.ensures) in
+    let inside : c.frame_of_byte-base.result.0 + c.args.rounded.size / page_bytes ≤ most_end = let x = c.args in tried_inside (record_with x.memory x.areas.now) x.request (plan_tables x.marks.now []) (c.requires.rounds x.areas.now) fit c.loop-high.invariant.0 tried in
     omega (arith, inside, c.if-base-count.false)
 
 pub loop-high-smaller : goal.loop-high-smaller
 loop-high-smaller c =
     let fit : AmountsFit (rounded_for (record_with c.args.memory c.args.areas.now) c.args.request) = amounts_fit (record_with c.args.memory c.args.areas.now) c.args.request c.requires.block_order_value c.requires.request_value in
-    let try : Tried (record_with c.args.memory c.args.areas.now) c.args.request c.loop-high.high c.frame_of_byte-base.result.0 = let x = c.args in trying (record_with x.memory x.areas.now) x.request (plan_tables x.marks.now []) (c.requires.rounds x.areas.now) fit c.lowest_end-lowest.ensures (omega arith) (ap (λ (v : Frame). v.0) c.frame_of_byte-base.ensures) in
+    let tried : Tried (record_with c.args.memory c.args.areas.now) c.args.request c.loop-high.high c.frame_of_byte-base.result.0 = let x = c.args in trying (record_with x.memory x.areas.now) x.request (plan_tables x.marks.now []) (c.requires.rounds x.areas.now) fit c.lowest_end-lowest.ensures (omega arith) (ap (λ (v : Frame). v.0) c.frame_of_byte-base.ensures) in
     let look : ScannedIn (record_with c.args.memory c.args.areas.now) (plan_tables c.args.marks.now []) c.frame_of_byte-base.result.0 (c.args.rounded.size / page_bytes) c.first_taken-taken.result.0 = c.first_taken-taken.ensures _ _ c.held_before-held.ensures in
-    let x = c.args in omega (arith, c.byte_of_frame-high.ensures, tried_falls (record_with x.memory x.areas.now) x.request (plan_tables x.marks.now []) (c.requires.rounds x.areas.now) fit c.loop-high.invariant.0 try look c.if-base-count.false)
+    let x = c.args in omega (arith, c.byte_of_frame-high.ensures, tried_falls (record_with x.memory x.areas.now) x.request (plan_tables x.marks.now []) (c.requires.rounds x.areas.now) fit c.loop-high.invariant.0 tried look c.if-base-count.false)
 
 pub loop-high-preserved : goal.loop-high-preserved
 loop-high-preserved c =
     let fit : AmountsFit (rounded_for (record_with c.args.memory c.args.areas.now) c.args.request) = amounts_fit (record_with c.args.memory c.args.areas.now) c.args.request c.requires.block_order_value c.requires.request_value in
-    let try : Tried (record_with c.args.memory c.args.areas.now) c.args.request c.loop-high.high c.frame_of_byte-base.result.0 = let x = c.args in trying (record_with x.memory x.areas.now) x.request (plan_tables x.marks.now []) (c.requires.rounds x.areas.now) fit c.lowest_end-lowest.ensures (omega arith) (ap (λ (v : Frame). v.0) c.frame_of_byte-base.ensures) in
+    let tried : Tried (record_with c.args.memory c.args.areas.now) c.args.request c.loop-high.high c.frame_of_byte-base.result.0 = let x = c.args in trying (record_with x.memory x.areas.now) x.request (plan_tables x.marks.now []) (c.requires.rounds x.areas.now) fit c.lowest_end-lowest.ensures (omega arith) (ap (λ (v : Frame). v.0) c.frame_of_byte-base.ensures) in
     let look : ScannedIn (record_with c.args.memory c.args.areas.now) (plan_tables c.args.marks.now []) c.frame_of_byte-base.result.0 (c.args.rounded.size / page_bytes) c.first_taken-taken.result.0 = c.first_taken-taken.ensures _ _ c.held_before-held.ensures in
     let x = c.args in
     let m = record_with x.memory x.areas.now in (
       subst (Searching m x.request (plan_tables x.marks.now [])) (sym c.byte_of_frame-high.ensures)
-          (tried_on m x.request (plan_tables x.marks.now []) (c.requires.rounds x.areas.now) fit c.loop-high.invariant.0 try look c.if-base-count.false),
+          (tried_on m x.request (plan_tables x.marks.now []) (c.requires.rounds x.areas.now) fit c.loop-high.invariant.0 tried look c.if-base-count.false),
       held_lower _ c.held_before-held.ensures.below (omega (arith, c.byte_of_frame-high.ensures, c.if-base-count.false)),
     )
 
