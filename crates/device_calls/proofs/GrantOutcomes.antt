@@ -120,6 +120,7 @@ module _ (m : Record) (i count align device : ℕ) (t : Tables) where
   widened : {n : ℕ} → First (take 2 (grant_checks m i count align device t)) n → First (grant_checks m i count align device t) n
   widened (here e) = here e
   widened (there e (here f)) = there e (here f)
+  widened {n = n} (there e (there _ none)) = elim none [ ]
 
   pub grant_refused : {n : ℕ} → n ≡ first_number (take 2 (grant_checks m i count align device t)) → (n ≡ 0 → ⊥) → grant m i count align device t ≡ refuse m t n
   unfolding grant

@@ -39,6 +39,8 @@ pub frame_of_bit-first-requires : goal.frame_of_bit-first-requires
 frame_of_bit-first-requires c =
     let machine : Record = record_with c.args.memory c.args.areas.now in
     let lent : Tables = tables c.args.marks.now c.args.words.now c.args.bitmap.now c.args.owners.now in
+    let all-bits : c.bits.result ≡ bit_count (area_at machine c.args.area) = c.bits.ensures ∙ ap bit_count c.area_at-a.ensures in
+    let is_found : c.find_run-run.result.0 < bit_count (area_at machine c.args.area) = subst (λ (n : ℕ). c.find_run-run.result.0 < n) all-bits c.if-bits-run.false in
     let fits : RunFits machine lent c.args.area c.args.count c.find_run-run.result = run_fits machine c.args.area c.args.count c.args.align c.args.device lent c.requires c.find_run-run.ensures is_found in
     let k = run_known _ _ _ _ _ fits in
     let e = c.area_at-a.ensures in
@@ -50,6 +52,7 @@ returns-then-not-has_free_outside c =
     let lent : Tables = tables c.args.marks.now c.args.words.now c.args.bitmap.now c.args.owners.now in
     let all-bits : c.bits.result ≡ bit_count (area_at machine c.args.area) = c.bits.ensures ∙ ap bit_count c.area_at-a.ensures in
     let is_found : c.find_run-run.result.0 < bit_count (area_at machine c.args.area) = subst (λ (n : ℕ). c.find_run-run.result.0 < n) all-bits c.if-bits-run.false in
+    let first_frame : c.frame_of_bit-first.result ≡ frame_of_bit (area_at machine c.args.area) c.find_run-run.result = c.frame_of_bit-first.ensures ∙ ap (λ (a : Area). frame_of_bit a c.find_run-run.result) c.area_at-a.ensures in
     let placed : c.place_of-page.result ≡ place_of_bit machine c.args.area c.find_run-run.result = c.place_of-page.ensures ∙ ap (λ (f : Frame). place (f.0 - c.args.memory.base.0)) first_frame in
     let x = c.args in
     returns_it {t = lent} c.refused-then-not-has_free_outside.ensures
@@ -67,6 +70,8 @@ pub take_run-requires : goal.take_run-requires
 take_run-requires c =
     let machine : Record = record_with c.args.memory c.args.areas.now in
     let lent : Tables = tables c.args.marks.now c.args.words.now c.args.bitmap.now c.args.owners.now in
+    let all-bits : c.bits.result ≡ bit_count (area_at machine c.args.area) = c.bits.ensures ∙ ap bit_count c.area_at-a.ensures in
+    let is_found : c.find_run-run.result.0 < bit_count (area_at machine c.args.area) = subst (λ (n : ℕ). c.find_run-run.result.0 < n) all-bits c.if-bits-run.false in
     let fits : RunFits machine lent c.args.area c.args.count c.find_run-run.result = run_fits machine c.args.area c.args.count c.args.align c.args.device lent c.requires c.find_run-run.ensures is_found in
     fits
 

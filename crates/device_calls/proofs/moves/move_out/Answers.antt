@@ -15,23 +15,6 @@ use Rattle.rules.specs.Does.{record_with}
 use Rattle.device_calls.proofs.MoveFacts.{not_before, out_none, Moving, moving_start, moving_turn, moving_end}
 use Rattle.device_calls.proofs.moves.move_out.Goals as goal
 
-abbrev machine : goal.Start Inv μ → Record
-machine s = record_with s.args.memory s.args.areas.now
-
--- the areas of the record are in order
-ordered : (c : goal.After-in_order-order Inv μ) → let s = c.before.before.before.before.before.before.before.before.before.before in Ordered s.args.areas.now (in_use s.args.areas.now s.args.memory.declared) c.in_order.result
-ordered c =
-    let s = c.before.before.before.before.before.before.before.before.before.before in
-    let few : min s.args.memory.declared most_areas ≡ s.args.memory.declared = omega (arith, s.requires.0.few) in
-    subst (λ (n : ℕ). Ordered s.args.areas.now (in_use s.args.areas.now n) c.in_order.result) few c.in_order.ensures
-
--- where the next page goes
-target : (c : goal.After-next_target-seeking Inv μ) → let s = c.before.before.before.before.before.before.before.before.before.before.before.before.before.before.before.before.before in
-    let marks = c.before.before.before.before.before.loop.marks in
-    (c.next-target.result.to.0 ≡ first_free marks s.args.memory.base s.args.areas.now s.args.memory.declared s.args.area) ×
-    Seeks marks s.args.memory.base s.args.areas.now s.args.memory.declared c.before.before.before.before.before.before.before.in_order.result s.args.area c.next-target.result
-target c = c.next-target.ensures c.before.before.before.before.before.before.before.before.before.before.before.before.before.before.before.before.before.args.memory.declared (ordered c.before.before.before.before.before.before.before) c.before.before.before.before.before.loop.invariant.seeks
-
 pub overflow_add-end : goal.overflow_add-end
 overflow_add-end c = omega (arith, c.requires.0.room, c.requires.1)
 
@@ -41,12 +24,14 @@ next_movable-at-requires c = (omega arith, omega (arith, c.requires.0.room, c.re
 -- no page is to move
 pub returns-then-end-at : goal.returns-then-end-at
 returns-then-end-at c =
-    out_none (machine c) c.args.area (tables c.args.marks.now c.args.words.now [] []) c.args.page c.args.count _ _ refl c.next_movable-at.ensures c.if-end-at.true
+    let machine : Record = record_with c.args.memory c.args.areas.now in
+    out_none machine c.args.area (tables c.args.marks.now c.args.words.now [] []) c.args.page c.args.count _ _ refl c.next_movable-at.ensures c.if-end-at.true
 
 pub loop-at-init : goal.loop-at-init
 loop-at-init c =
+    let machine : Record = record_with c.args.memory c.args.areas.now in
     let w = c.none-seeking.ensures in
-    moving_start (machine c) c.args.area c.in_order-order.result (tables c.args.marks.now c.args.words.now [] []) _ _ c.args.page.0 (omega arith) c.next_movable-at.ensures
+    moving_start machine c.args.area c.in_order-order.result (tables c.args.marks.now c.args.words.now [] []) _ _ c.args.page.0 (omega arith) c.next_movable-at.ensures
     (seeks_start c.args.memory.base c.args.areas.now c.args.memory.declared c.in_order-order.result c.args.area c.args.marks.now c.none-seeking.result
     (ap (λ (t : Seeking). t.ordinary.from.0) w) (ap (λ (t : Seeking). t.ordinary.end.0) w) (ap (λ (t : Seeking). t.ordinary.next) w) (ap (λ (t : Seeking). t.others.from.0) w) (ap (λ (t : Seeking). t.others.next) w))
 
@@ -64,13 +49,20 @@ loop-at-smaller c = omega (arith, c.loop-at-test.true, not_before _ _ _ c.next_m
 
 pub loop-at-preserved : goal.loop-at-preserved
 loop-at-preserved c =
+    let machine : Record = record_with c.args.memory c.args.areas.now in
+    let ordered : Ordered c.args.areas.now (in_use c.args.areas.now c.args.memory.declared) c.in_order-order.result = let few : min c.args.memory.declared most_areas ≡ c.args.memory.declared = omega (arith, c.requires.0.few) in
+    subst (λ (n : ℕ). Ordered c.args.areas.now (in_use c.args.areas.now n) c.in_order-order.result) few c.in_order-order.ensures in
+    let target : let marks = c.loop-at.marks in
+    (c.next_target-seeking.result.to.0 ≡ first_free marks c.args.memory.base c.args.areas.now c.args.memory.declared c.args.area) ×
+    Seeks marks c.args.memory.base c.args.areas.now c.args.memory.declared c.in_order-order.result c.args.area c.next_target-seeking.result = c.next_target-seeking.ensures c.args.memory.declared ordered c.loop-at.invariant.seeks in
     let v = c.loop-at.invariant in
     let l = c.loop-at-test.true in
     let held = c.requires.0.held c.loop-at.at.0 (omega (arith, v.begun, not_before _ _ _ c.next_movable-at.ensures)) l in
-    let found = target c in
-    moving_turn (machine c) c.args.area c.in_order-order.result (tables c.args.marks.now c.args.words.now [] []) _ _ c.requires.0 c.requires.1 (ordered c) v l held
+    let found = target in
+    moving_turn machine c.args.area c.in_order-order.result (tables c.args.marks.now c.args.words.now [] []) _ _ c.requires.0 c.requires.1 ordered v l held
     c.place-to.ensures found.0 found.1 c.move_page.ensures c.next_movable-at-in-loop-at.ensures
 
 pub returns : goal.returns
 returns c =
-    moving_end (machine c) c.args.area c.in_order-order.result (tables c.args.marks.now c.args.words.now [] []) _ _ c.args.page c.args.count c.loop-at.invariant c.loop-at-test.false refl c.next_movable-at.ensures
+    let machine : Record = record_with c.args.memory c.args.areas.now in
+    moving_end machine c.args.area c.in_order-order.result (tables c.args.marks.now c.args.words.now [] []) _ _ c.args.page c.args.count c.loop-at.invariant c.loop-at-test.false refl c.next_movable-at.ensures

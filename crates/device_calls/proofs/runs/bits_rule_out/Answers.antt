@@ -41,7 +41,7 @@ returns c =
     let p = c.requires in
     let o = c.next_open-open in
     record {
-      some = omega (arith, p.1.low);
-      ruled_out = λ k low high may. open_ruled x.bitmap.now x.wanted x.bit.0 x.set _ o.result.bits p.1 o.ensures.0 k low (omega (arith, p.1.low)) may;
-      high = omega (arith, o.ensures.0, lowest_le (λ k. opens x.bitmap.now x.wanted.start x.wanted.bits x.wanted.starts (x.set + 1 + k)) (x.wanted.last + 1 - (x.set + 1)), p.0.last_high);
+      some = omega (arith, p.set_in.low);
+      ruled_out = λ k low high may. open_ruled x.bitmap.now x.wanted x.bit.0 x.set _ o.result.bits p.set_in o.ensures.0 k low (omega (arith, p.set_in.low)) may;
+      high = omega (arith, o.ensures.0, lowest_le (λ k. opens x.bitmap.now x.wanted.start x.wanted.bits x.wanted.starts (x.set + 1 + k)) (x.wanted.last + 1 - (x.set + 1)), p.tries_at.last_high);
     }
