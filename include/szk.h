@@ -1,7 +1,7 @@
 /*
  * szk.h: the page manager's calls, for C.
  *
- * Link with target/staticlib/libszk.a, which `rt staticlib szk` proves and writes. The rules are
+ * Link with crates/szk/out/libszk.a, which `rt lib` proves and writes in crates/szk. The rules are
  * those of documents 01 and 02, as far as 02 has landed; what is said here is a summary of them
  * for a caller.
  *

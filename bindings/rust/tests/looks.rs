@@ -16,10 +16,11 @@ fn source(path: &str) -> String {
     fs::read_to_string(Path::new(env!("CARGO_MANIFEST_DIR")).join("../..").join(path)).expect(path)
 }
 
-/// The code without comments, imports and contracts, its words one space apart, and none behind an opening parenthesis.
+/// The code without comments, imports, contracts and the one derive, its words one space apart, and none behind an opening parenthesis.
 fn code(source: &str) -> String {
     let told = ["//", "use ", "pub use ", "ghost ", "requires ", "ensures "];
-    let lines = source.lines().map(str::trim).filter(|line| !told.iter().any(|word| line.starts_with(word)));
+    let is_told = |line: &&str| *line == "#[derive(Clone, Copy)]" || told.iter().any(|word| line.starts_with(word));
+    let lines = source.lines().map(str::trim).filter(|line| !is_told(line));
     lines.collect::<Vec<_>>().join(" ").replace("( ", "(")
 }
 

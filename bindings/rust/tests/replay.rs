@@ -1,6 +1,6 @@
 //! The proved replay program and the reference's write the same bytes.
 //!
-//! The program is target/bin/replay; SZK_REPLAY names another.
+//! The program is crates/replay/out/replay; SZK_REPLAY names another.
 
 use reference::sample::Rng;
 use reference::{day, replay, sample};
@@ -10,7 +10,7 @@ use std::path::PathBuf;
 use std::process::{Command, Stdio};
 
 fn program() -> PathBuf {
-    let built = PathBuf::from(env!("CARGO_MANIFEST_DIR")).join("../../target/bin/replay");
+    let built = PathBuf::from(env!("CARGO_MANIFEST_DIR")).join("../../crates/replay/out/replay");
     env::var_os("SZK_REPLAY").map_or(built, PathBuf::from)
 }
 
@@ -19,7 +19,7 @@ fn output(command: &mut Command, test: &str, records: &[u8]) -> Vec<u8> {
     let path = PathBuf::from(env!("CARGO_TARGET_TMPDIR")).join(test);
     fs::write(&path, records).expect("the records are written");
     let input = File::open(&path).expect("the records are there");
-    let run = command.stdin(Stdio::from(input)).output().expect("target/bin/replay runs");
+    let run = command.stdin(Stdio::from(input)).output().expect("crates/replay/out/replay runs");
     assert!(run.status.success(), "{}", String::from_utf8_lossy(&run.stderr));
     run.stdout
 }

@@ -1,0 +1,14 @@
+-- `records::number` meets its contract: from the highest byte down, `value` is the number in the bytes passed. Assumes nothing.
+use Prim.Native.Nat.{ℕ, ◌+◌, ◌-◌, ◌*◌, ◌^◌, ◌≤◌, ◌<◌}
+use native.Mathlib.Omega.{arith}
+use mathlib.Core.Path.{◌≡◌, sym, ap, ◌∙◌}
+use lib.ListN.{get_or}
+use Rattle.records.specs.Records.{little}
+use Rattle.records.proofs.Little.{little_none, little_turn, little_fits}
+use Rattle.records.proofs.number.Given as goal
+
+abbrev pub invariant-loop-i : goal.invariant-loop-i
+invariant-loop-i l = (l.i ≤ l.width) × (l.value ≡ little l.bytes (l.at + l.i) (l.width - l.i))
+
+abbrev pub decreases-loop-i : goal.decreases-loop-i
+decreases-loop-i l = l.i
