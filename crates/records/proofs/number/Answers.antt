@@ -7,27 +7,6 @@ use Rattle.records.specs.Records.{little}
 use Rattle.records.proofs.Little.{little_none, little_turn, little_fits}
 use Rattle.records.proofs.number.Goals as goal
 
-abbrev Turn : Type 0
-Turn = goal.After-shared_slice_known-1
-
-abbrev place : Turn → ℕ
-place c = c.before.before.before.args.at + (c.before.before.loop.i - 1)
-
-abbrev next : Turn → ℕ
-next c = c.before.before.loop.value * 256 + get_or c.before.before.before.args.bytes.now (place c) 0
-
-turned : (c : Turn) → next c ≡ little c.before.before.before.args.bytes.now (place c) (c.before.before.before.args.width - (c.before.before.loop.i - 1))
-turned c =
-    let a = c.before.before.before.args in
-    little_turn a.bytes.now a.at a.width c.before.before.loop.i c.before.before.loop.value
-    c.before.loop-test.true c.before.before.loop.invariant.0 c.before.before.loop.invariant.1
-
-fits : (c : Turn) → next c < 2 ^ 64
-fits c =
-    let a = c.before.before.before.args in
-    rw (turned c)
-    (little_fits a.bytes.now (λ k. omega (arith, c.shared-slice-known.given k)) (place c) (a.width - (c.before.before.loop.i - 1)) (omega arith))
-
 pub loop-i-init : goal.loop-i-init
 loop-i-init c =
     let a = c.args in
@@ -44,19 +23,45 @@ pub bounds-bytes-at : goal.bounds-bytes-at
 bounds-bytes-at c = omega arith
 
 pub overflow_cast-byte : goal.overflow_cast-byte
-overflow_cast-byte c = omega (arith, c.shared_slice_known-1.given (place c))
+overflow_cast-byte c =
+    let place : ℕ = c.args.at + (c.loop-i.i - 1) in
+    omega (arith, c.shared_slice_known-1.given place)
 
 pub overflow_mul-value : goal.overflow_mul-value
-overflow_mul-value c = omega (arith, fits c)
+overflow_mul-value c =
+    let place : ℕ = c.args.at + (c.loop-i.i - 1) in
+    let next : ℕ = c.loop-i.value * 256 + get_or c.args.bytes.now place 0 in
+    let turned : next ≡ little c.args.bytes.now place (c.args.width - (c.loop-i.i - 1)) = let a = c.args in
+    little_turn a.bytes.now a.at a.width c.loop-i.i c.loop-i.value
+    c.loop-i-test.true c.loop-i.invariant.0 c.loop-i.invariant.1 in
+    let fits : next < 2 ^ 64 = let a = c.args in
+    rw turned
+    (little_fits a.bytes.now (λ k. omega (arith, c.shared_slice_known-1.given k)) place (a.width - (c.loop-i.i - 1)) (omega arith)) in
+    omega (arith, fits)
 
 pub overflow_add-value : goal.overflow_add-value
-overflow_add-value c = omega (arith, fits c)
+overflow_add-value c =
+    let place : ℕ = c.args.at + (c.loop-i.i - 1) in
+    let next : ℕ = c.loop-i.value * 256 + get_or c.args.bytes.now place 0 in
+    let turned : next ≡ little c.args.bytes.now place (c.args.width - (c.loop-i.i - 1)) = let a = c.args in
+    little_turn a.bytes.now a.at a.width c.loop-i.i c.loop-i.value
+    c.loop-i-test.true c.loop-i.invariant.0 c.loop-i.invariant.1 in
+    let fits : next < 2 ^ 64 = let a = c.args in
+    rw turned
+    (little_fits a.bytes.now (λ k. omega (arith, c.shared_slice_known-1.given k)) place (a.width - (c.loop-i.i - 1)) (omega arith)) in
+    omega (arith, fits)
 
 pub loop-i-smaller : goal.loop-i-smaller
 loop-i-smaller c = omega arith
 
 pub loop-i-preserved : goal.loop-i-preserved
-loop-i-preserved c = (omega arith, turned c)
+loop-i-preserved c =
+    let place : ℕ = c.args.at + (c.loop-i.i - 1) in
+    let next : ℕ = c.loop-i.value * 256 + get_or c.args.bytes.now place 0 in
+    let turned : next ≡ little c.args.bytes.now place (c.args.width - (c.loop-i.i - 1)) = let a = c.args in
+    little_turn a.bytes.now a.at a.width c.loop-i.i c.loop-i.value
+    c.loop-i-test.true c.loop-i.invariant.0 c.loop-i.invariant.1 in
+    (omega arith, turned)
 
 pub returns : goal.returns
 returns c =
