@@ -11,6 +11,7 @@ use mathlib.Core.List.{List, [], ◌∷◌, ◌++◌}
 use lib.ListN.{length, drop}
 use borrow.Author.Tests.{lt-ltb, le-ltb}
 use Rattle.search.proofs.Bools.{by_cases, or_right_true}
+use Rattle.frames.specs.declared.Frame.{Frame}
 use Rattle.frames.specs.Tables.{Tables, tables}
 use Rattle.rules.specs.declared.Call.{Call}
 use Rattle.rules.specs.declared.Call.TheVariants as Call
@@ -30,11 +31,9 @@ use lib.Dec.{ltb}
 use denote.Enum.Declared.{tag_of}
 use types.Run.{OneOf, miss}
 
--- the tags of the calls but a boot, whose tag is 12
-abbrev others : List ℕ
-others = 0 ∷ 1 ∷ 2 ∷ 3 ∷ 4 ∷ 5 ∷ 6 ∷ 7 ∷ 8 ∷ 9 ∷ 10 ∷ 11 ∷ 13 ∷ []
-
-pub not_boot : (memory : Memory) (call : Call) → OneOf others (tag_of the_type call) → frames_for memory call ≡ memory.frames
+pub not_boot :
+    (memory : Memory) (call : Call) → ((base : Frame) (frames block_order : ℕ) → call ≡ Call.Boot base frames block_order → ⊥) →
+    frames_for memory call ≡ memory.frames
 unfolding frames_for
 not_boot memory (Call.PutMovable name) h = refl
 not_boot memory (Call.PutFixed name) h = refl
@@ -48,7 +47,7 @@ not_boot memory (Call.Release area frame count device) h = refl
 not_boot memory (Call.DeviceStore frame word device) h = refl
 not_boot memory (Call.DeviceRead frame device) h = refl
 not_boot memory (Call.Declare request) h = refl
-not_boot memory (Call.Boot base frames block_order) h = absurd (miss others 12 tt h)
+not_boot memory (Call.Boot base frames block_order) h = absurd (h base frames block_order refl)
 not_boot memory Call.Report h = refl
 
 -- no text and no buffer: no bytes

@@ -20,6 +20,6 @@ returns c =
     let made = c.answer-returned in
     let line = c.put_four-text in
     one_answered (progress_with c.args.p c.args.areas.now) c.args.out.now lent_by c.args.call c.args.size
-    made.result made.new.areas made.new.marks.0 made.new.marks.1.0 made.new.marks.1.1.0 made.new.marks.1.1.1.0
+    made.result made.new.areas made.new.marks made.new.words made.new.bitmap made.new.owners
     line.new.out line.result
     c.requires.0 made.ensures.0 made.ensures.1 line.ensures

@@ -39,7 +39,7 @@ answer_one-p-requires c =
     let room-there : has_room_for (length c.loop-p.out) c.loop-p.p.text c.loop-p.p.step ≡ true = sym c.has_room.ensures ∙ not-false c.has_room.result (ap not c.if-not-has_room.false) in
     let inside : Within bytes_of c.loop-p.p.at c.in-Whole.size = whole_within bytes_of c.loop-p.p.at (sym c.decode-found.ensures ∙ c.in-Whole.is) in
     let w = inside in
-    let g = c.well-formed in
+    let g = c.well_formed in
     (room-there, omega arith, c.loop-p.invariant.6)
 
 pub loop-p-smaller : goal.loop-p-smaller

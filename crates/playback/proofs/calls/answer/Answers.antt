@@ -39,7 +39,7 @@ returns c =
     let same = frames.ensures in
     let made = c.perform in (
       answered c.args.call record_of lent_by (frames.result - 0)
-          (record_with made.result.machine.memory made.new.marks.0) made.result.answer made.new.marks.1.0 made.new.marks.1.1.0 made.new.marks.1.1.1.0 made.new.marks.1.1.1.1.0
+          (record_with made.result.machine.memory made.new.areas) made.result.answer made.new.marks made.new.words made.new.bitmap made.new.owners
           c.requires (omega arith) (omega (arith, c.if-marks-frames.false)) (omega (arith, c.if-words-frames.false)) (omega (arith, c.if-owners-frames.false)) made.ensures.does_with_all.0,
       made.ensures.does_with_all.1,
     )

@@ -10,4 +10,4 @@ unfolding frames_for
 returns-in-Boot c = rw c.in-Boot.is
 
 pub returns-in_default : goal.returns-in_default
-returns-in_default c = sym (not_boot c.args.machine.memory c.args.call c.in_default.in_default-own.keys2)
+returns-in_default c = sym (not_boot c.args.machine.memory c.args.call c.in_default.not-Boot)
