@@ -10,10 +10,13 @@ ghost use Rattle.cases.specs.Steps.Tallies.{most_file, Counted};
 
 mod texts;
 
-use libc::STDOUT_FILENO;
 use playback::{Progress, Stop, held};
 use records::lines;
 use rules::{Counters, Record};
+use std::fs::File;
+use std::io::Read;
+use std::rt::Files;
+use std::str::from_utf8;
 use text::writing::put_bytes;
 
 // A file that fills a buffer of so many bytes is not read to its end.
@@ -34,36 +37,62 @@ struct Tally {
     failed: u64,
 }
 
-// Reads a file to its end. A file that cannot be opened, or fills the buffer, counts as one that fills it: nothing is played in part.
-fn load(path: &[u8], buffer: &mut [u8]) -> usize
+// Reads once. At the end of the file, and where a read fails, there is nothing.
+fn read_once(file: &mut impl Read, part: &mut [u8]) -> usize
+    ensures { result ≤ length part.old }
+{
+    match file.read(part) {
+        Ok(got) => got,
+        Err(_) => 0,
+    }
+}
+
+// Reads until the buffer is full or there is nothing more.
+fn read_full(file: &mut impl Read, buffer: &mut [u8]) -> usize
     ensures { result ≤ length buffer.old }
 {
-    let file = os::open_read(path);
-    if file < 0 {
-        return buffer.len();
+    let mut done = 0;
+    while done < buffer.len() {
+        let got = read_once(file, &mut buffer[done..]);
+        if got == 0 {
+            return done;
+        }
+        done += got;
     }
-    let got = io::read_full(file, buffer);
-    libc::close(file);
-    got
+    done
+}
+
+// Reads a file to its end. A file that cannot be opened, as one whose path is no text, or fills the buffer, counts as one that fills it:
+// nothing is played in part.
+fn load(rt: &impl Files, path: &[u8], buffer: &mut [u8]) -> usize
+    ensures { result ≤ length buffer.old }
+{
+    let Ok(path) = from_utf8(path) else {
+        return buffer.len();
+    };
+    match File::open(rt, path) {
+        Ok(mut file) => read_full(&mut file, buffer),
+        Err(_) => buffer.len(),
+    }
 }
 
 // Reads the file of a case: its name with an ending.
-fn load_part(name: &[u8], ending: &[u8], buffer: &mut [u8]) -> usize
+fn load_part(rt: &impl Files, name: &[u8], ending: &[u8], buffer: &mut [u8]) -> usize
     ensures { result ≤ length buffer.old }
 {
     let mut path = [0u8; 64];
     let named = put_bytes(&mut path, 0, name);
     let whole = put_bytes(&mut path, named, ending);
-    load(&path[0..whole], buffer)
+    load(rt, &path[0..whole], buffer)
 }
 
 // Reads what a case is given: texts, or records.
-fn load_given(name: &[u8], way: Way, buffer: &mut [u8]) -> usize
+fn load_given(rt: &impl Files, name: &[u8], way: Way, buffer: &mut [u8]) -> usize
     ensures { result ≤ length buffer.old }
 {
     match way {
-        Way::Texts => load_part(name, b".txt", buffer),
-        _ => load_part(name, b".rec", buffer),
+        Way::Texts => load_part(rt, name, b".txt", buffer),
+        _ => load_part(rt, name, b".rec", buffer),
     }
 }
 
@@ -169,48 +198,58 @@ fn first_difference(a: &[u8], b: &[u8]) -> usize {
     i
 }
 
+// Writes bytes. Where that fails the output is not whole, and there is nothing else to do.
+fn tell(rt: &impl Print, bytes: &[u8]) {
+    let _ = rt.write_all(bytes);
+}
+
+// Writes a number in decimal.
+fn tell_number(rt: &impl Print, value: u64) {
+    let _ = rt.print(value);
+}
+
 // Writes what a case gave, and answers whether it is what was expected.
-fn judge(name: &[u8], got: &[u8], expected: &[u8]) -> bool {
+fn judge(rt: &impl Print, name: &[u8], got: &[u8], expected: &[u8]) -> bool {
     let at = first_difference(got, expected);
     if at == got.len() {
         if at == expected.len() {
-            io::write_all(STDOUT_FILENO, b"ok ");
-            io::write_all(STDOUT_FILENO, name);
-            io::write_all(STDOUT_FILENO, b"\n");
+            tell(rt, b"ok ");
+            tell(rt, name);
+            tell(rt, b"\n");
             return true;
         }
     }
-    io::write_all(STDOUT_FILENO, b"FAILED ");
-    io::write_all(STDOUT_FILENO, name);
-    io::write_all(STDOUT_FILENO, b" at byte ");
-    io::print_decimal(STDOUT_FILENO, at as u64);
-    io::write_all(STDOUT_FILENO, b"\n");
+    tell(rt, b"FAILED ");
+    tell(rt, name);
+    tell(rt, b" at byte ");
+    tell_number(rt, at as u64);
+    tell(rt, b"\n");
     false
 }
 
 // A file that is missing or too long.
-fn unreadable(name: &[u8]) -> bool {
-    io::write_all(STDOUT_FILENO, b"FAILED ");
-    io::write_all(STDOUT_FILENO, name);
-    io::write_all(STDOUT_FILENO, b" has a file that cannot be read whole\n");
+fn unreadable(rt: &impl Print, name: &[u8]) -> bool {
+    tell(rt, b"FAILED ");
+    tell(rt, name);
+    tell(rt, b" has a file that cannot be read whole\n");
     false
 }
 
 // One case.
-fn run_case(name: &[u8], way: Way) -> bool {
+fn run_case(rt: &(impl Files + Print), name: &[u8], way: Way) -> bool {
     let mut bytes = [0u8; MOST_FILE];
     let mut expected = [0u8; MOST_FILE];
     let mut out = [0u8; MOST_FILE];
-    let size = load_given(name, way, &mut bytes);
+    let size = load_given(rt, name, way, &mut bytes);
     if MOST_FILE <= size {
-        return unreadable(name);
+        return unreadable(rt, name);
     }
-    let length = load_part(name, b".out", &mut expected);
+    let length = load_part(rt, name, b".out", &mut expected);
     if MOST_FILE <= length {
-        return unreadable(name);
+        return unreadable(rt, name);
     }
     let text = play_case(&bytes[0..size], way, &mut out);
-    judge(name, &out[0..text], &expected[0..length])
+    judge(rt, name, &out[0..text], &expected[0..length])
 }
 
 // The end of the line that begins at a place.
@@ -246,7 +285,7 @@ fn counted(t: Tally, passed: bool) -> Tally
 }
 
 // The cases that a list names.
-fn run_names(list: &[u8], way: Way) -> Tally
+fn run_names(rt: &(impl Files + Print), list: &[u8], way: Way) -> Tally
     requires { length list.now ≤ most_file }
     ensures { Counted most_file result }
 {
@@ -257,34 +296,34 @@ fn run_names(list: &[u8], way: Way) -> Tally
     let mut at = 0;
     while at < list.len() {
         let end = line_end(list, at);
-        t = counted(t, run_case(&list[at..end], way));
+        t = counted(t, run_case(rt, &list[at..end], way));
         at = end + 1;
     }
     t
 }
 
 // The cases of the list in a file. A list that cannot be read counts as a case that failed.
-fn run_list(path: &[u8], way: Way) -> Tally
+fn run_list(rt: &(impl Files + Print), path: &[u8], way: Way) -> Tally
     ensures { Counted most_file result }
 {
     let mut list = [0u8; MOST_FILE];
-    let size = load(path, &mut list);
+    let size = load(rt, path, &mut list);
     if MOST_FILE <= size {
-        unreadable(path);
+        unreadable(rt, path);
         return Tally {
             cases: 1,
             failed: 1,
         };
     }
-    run_names(&list[0..size], way)
+    run_names(rt, &list[0..size], way)
 }
 
-fn main() {
-    let a = run_list(b"cases.txt", Way::Whole);
-    let b = run_list(b"cuts.txt", Way::EveryLength);
-    let c = run_list(b"texts.txt", Way::Texts);
-    io::print_decimal(STDOUT_FILENO, a.cases + b.cases + c.cases);
-    io::write_all(STDOUT_FILENO, b" cases, ");
-    io::print_decimal(STDOUT_FILENO, a.failed + b.failed + c.failed);
-    io::write_all(STDOUT_FILENO, b" failed\n");
+fn main(rt: HostRuntime) {
+    let a = run_list(&rt, b"cases.txt", Way::Whole);
+    let b = run_list(&rt, b"cuts.txt", Way::EveryLength);
+    let c = run_list(&rt, b"texts.txt", Way::Texts);
+    tell_number(&rt, a.cases + b.cases + c.cases);
+    tell(&rt, b" cases, ");
+    tell_number(&rt, a.failed + b.failed + c.failed);
+    tell(&rt, b" failed\n");
 }

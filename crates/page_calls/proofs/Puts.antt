@@ -1,7 +1,7 @@
 -- What a put does, from what its look-up and its scans of the marks found. Assumes nothing.
 --     put_at_found, put_at_fixed, put_at_area      the place that a put takes, from what the scans found
 --     put_live, put_refused, put_full, put_done    what the call does
-use Prim.Native.Nat.{ℕ, ◌+◌, ◌-◌, ◌≤◌, ◌<◌, min}
+use Prim.Native.Nat.{ℕ, ◌+◌, ◌≤◌, ◌<◌, min}
 use native.Mathlib.Omega.{arith}
 use mathlib.Core.Path.{◌≡◌, refl, sym, ap, ap₂, ◌∙◌}
 use mathlib.Core.Bool.{true, false, not, ◌||◌}

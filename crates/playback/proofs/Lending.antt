@@ -7,18 +7,16 @@
 use Prim.Native.Nat.{ℕ, ◌≤◌, ◌<◌}
 use mathlib.Core.Bool.{◌||◌}
 use mathlib.Core.Path.{◌≡◌, refl, sym, ap, ◌∙◌}
-use mathlib.Core.List.{List, [], ◌∷◌, ◌++◌}
+use mathlib.Core.List.{List, [], ◌++◌}
 use lib.ListN.{length, drop}
 use borrow.Author.Tests.{lt-ltb, le-ltb}
 use Rattle.search.proofs.Bools.{by_cases, or_right_true}
 use Rattle.frames.specs.declared.Frame.{Frame}
 use Rattle.frames.specs.Tables.{Tables, tables}
 use Rattle.rules.specs.declared.Call.{Call}
-use Rattle.rules.specs.declared.Call.TheVariants as Call
 use Rattle.rules.specs.declared.Memory.{Memory}
 use Rattle.rules.specs.declared.Record.{Record}
 use Rattle.answer.specs.declared.Answer.{Answer}
-use Rattle.rules.specs.contracts.Call.{the_type}
 use Rattle.rules.specs.Outcomes.{Outcome, outcome, refuse}
 use Rattle.rules.specs.Calls.{perform}
 use Rattle.rules.specs.Does.{with_all_areas}
@@ -28,8 +26,6 @@ use Rattle.setup.proofs.AllAreas.{asked}
 use Rattle.machine.specs.Does.{beside}
 use Rattle.playback.specs.Playback.{frames_for, entries_for, with_entries, answer_to}
 use lib.Dec.{ltb}
-use denote.Enum.Declared.{tag_of}
-use types.Run.{OneOf, miss}
 
 pub not_boot :
     (memory : Memory) (call : Call) → ((base : Frame) (frames block_order : ℕ) → call ≡ Call.Boot base frames block_order → ⊥) →

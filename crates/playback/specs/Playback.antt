@@ -17,7 +17,6 @@ use Rattle.records.specs.Records.{decode_at}
 use Rattle.text.specs.Writing.{four_numbers, written}
 use Rattle.playback.specs.declared.Progress.{Progress}
 use Rattle.playback.specs.declared.Stop.{Stop}
-use Rattle.playback.specs.declared.Stop.TheVariants as Stop
 use Rattle.playback.specs.declared.Stopped.{Stopped}
 
 -- ---- one record

@@ -12,7 +12,6 @@ use Rattle.records.specs.Records.{decode_at}
 use Rattle.records.specs.Lines.{heading, bad_line, end_line}
 use Rattle.playback.specs.declared.Progress.{Progress}
 use Rattle.playback.specs.declared.Stop.{Stop}
-use Rattle.playback.specs.declared.Stop.TheVariants as Stop
 use Rattle.playback.specs.Playback.{answer_to, line_for, playing, Played, answer_records}
 
 -- how many frames the program holds, and how many bitmap words it lends: document 02, request (v), keeps the frames and has more words

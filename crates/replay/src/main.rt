@@ -7,10 +7,10 @@
 ghost use Rattle.std.specs.Prelude.{◌≡◌, ◌+◌, ◌≤◌, ◌<◌, length};
 ghost use Rattle.replay.specs.Steps.Bounds.{block, Bounds, Next};
 
-use libc::{STDIN_FILENO, STDOUT_FILENO};
 use playback::{Progress, Stop, held};
 use records::lines;
 use rules::{Counters, Record};
+use std::io::Read;
 
 // The bytes of a block of input, and of the text that is written for it at once.
 const BLOCK: usize = 65536;
@@ -85,29 +85,32 @@ fn move_to_front(input: &mut [u8], at: usize, filled: usize) -> usize
 }
 
 // Reads once. At the end of the input, and where a read fails, there is nothing.
-fn read_once(part: &mut [u8]) -> usize
+fn read_once(rt: &impl Input, part: &mut [u8]) -> usize
     ensures { result ≤ length part.old }
 {
-    let got = libc::read(STDIN_FILENO, part);
-    io::count(got, part)
+    let mut reader = rt.reader();
+    match reader.read(part) {
+        Ok(got) => got,
+        Err(_) => 0,
+    }
 }
 
-fn read_from(input: &mut [u8], from: usize) -> usize
+fn read_from(rt: &impl Input, input: &mut [u8], from: usize) -> usize
     requires { from ≤ length input.old }
     ensures { from + result ≤ length input.old }
 {
-    read_once(&mut input[from..])
+    read_once(rt, &mut input[from..])
 }
 
 // The next block: the record that was cut, if any, and what is read after it. It is shorter than a block, so there is room to read.
-fn refill(input: &mut [u8], s: State) -> State
+fn refill(rt: &impl Input, input: &mut [u8], s: State) -> State
     requires { Bounds s × (length input.old ≡ block) }
     ensures { Next s result }
 {
     let at = s.at;
     let filled = s.filled;
     let kept = move_to_front(input, at, filled);
-    let got = read_from(input, kept);
+    let got = read_from(rt, input, kept);
     let record = s.record;
     let counters = s.counters;
     State {
@@ -122,83 +125,99 @@ fn refill(input: &mut [u8], s: State) -> State
     }
 }
 
-fn write_text(out: &[u8], text: usize) -> bool
+// Writes the text, and answers whether all of it was written.
+fn write_text(rt: &impl Print, out: &[u8], text: usize) -> bool
     requires { text ≤ length out.now }
 {
-    io::write_all(STDOUT_FILENO, &out[0..text])
+    rt.write_all(&out[0..text]).is_ok()
 }
 
 // Writes the text; where that fails the program is done.
-fn flush(out: &[u8], text: usize, s: State) -> State
+fn flush(rt: &impl Print, out: &[u8], text: usize, s: State) -> State
     requires { Bounds s × (text ≤ length out.now) }
     ensures { Next s result }
 {
-    if write_text(out, text) {
+    if write_text(rt, out, text) {
         return s;
     }
     done(s)
 }
 
 // Writes the text and fetches more input.
-fn go_on(input: &mut [u8], out: &[u8], text: usize, s: State) -> State
+fn go_on(rt: &(impl Input + Print), input: &mut [u8], out: &[u8], text: usize, s: State) -> State
     requires { Bounds s × (length input.old ≡ block) × (text ≤ length out.now) }
     ensures { Next s result }
 {
-    if write_text(out, text) {
-        return refill(input, s);
+    if write_text(rt, out, text) {
+        return refill(rt, input, s);
     }
     done(s)
 }
 
 // Writes the text and after it the offset of a record that cannot be read.
-fn finish_bad(out: &mut [u8], text: usize, s: State) -> State
+fn finish_bad(rt: &impl Print, out: &mut [u8], text: usize, s: State) -> State
     requires { Bounds s × (text ≤ length out.old) }
     ensures { Next s result }
 {
     let whole = lines::put_bad(out, text, s.offset + s.at as u64);
-    write_text(out, whole);
+    write_text(rt, out, whole);
     done(s)
 }
 
 // Writes the text and after it the number of records.
-fn finish(out: &mut [u8], text: usize, s: State) -> State
+fn finish(rt: &impl Print, out: &mut [u8], text: usize, s: State) -> State
     requires { Bounds s × (text ≤ length out.old) }
     ensures { Next s result }
 {
     let whole = lines::put_end(out, text, s.step);
-    write_text(out, whole);
+    write_text(rt, out, whole);
     done(s)
 }
 
 // Every byte is read, or a record is cut: the input's end decides.
-fn at_end(input: &mut [u8], out: &mut [u8], text: usize, s: State, cut: bool) -> State
+fn at_end(
+    rt: &(impl Input + Print),
+    input: &mut [u8],
+    out: &mut [u8],
+    text: usize,
+    s: State,
+    cut: bool,
+) -> State
     requires { Bounds s × (length input.old ≡ block) × (text ≤ length out.old) }
     ensures { Next s result }
 {
     if !s.ended {
-        return go_on(input, out, text, s);
+        return go_on(rt, input, out, text, s);
     }
     if cut {
-        return finish_bad(out, text, s);
+        return finish_bad(rt, out, text, s);
     }
-    finish(out, text, s)
+    finish(rt, out, text, s)
 }
 
 // What follows by the reason that the records stopped.
-fn after(input: &mut [u8], out: &mut [u8], text: usize, s: State, why: Stop) -> State
+fn after(
+    rt: &(impl Input + Print),
+    input: &mut [u8],
+    out: &mut [u8],
+    text: usize,
+    s: State,
+    why: Stop,
+) -> State
     requires { Bounds s × (length input.old ≡ block) × (text ≤ length out.old) }
     ensures { Next s result }
 {
     match why {
-        Stop::All => at_end(input, out, text, s, false),
-        Stop::Cut => at_end(input, out, text, s, true),
-        Stop::Unknown => finish_bad(out, text, s),
-        Stop::Full => flush(out, text, s),
+        Stop::All => at_end(rt, input, out, text, s, false),
+        Stop::Cut => at_end(rt, input, out, text, s, true),
+        Stop::Unknown => finish_bad(rt, out, text, s),
+        Stop::Full => flush(rt, out, text, s),
     }
 }
 
 // One turn: answers the records of the block, writes their lines, and fetches more input where it is needed.
 fn turn(
+    rt: &(impl Input + Print),
     input: &mut [u8],
     out: &mut [u8],
     marks: &mut [u32],
@@ -243,28 +262,30 @@ fn turn(
         step: p.step,
         ended: s.ended,
     };
-    after(input, out, p.text, next, why)
+    after(rt, input, out, p.text, next, why)
 }
 
-fn write_heading() {
+// Writes the first line.
+fn write_heading(rt: &impl Print) {
     let mut out = [0u8; 64];
     let n = lines::put_heading(&mut out, 0);
     if n <= 64 {
-        io::write_all(STDOUT_FILENO, &out[0..n]);
+        write_text(rt, &out, n);
     }
 }
 
-fn main() {
+fn main(rt: HostRuntime) {
     let mut input = [0u8; BLOCK];
     let mut out = [0u8; BLOCK];
     let mut marks = held::marks();
     let mut words = held::words();
     let mut bitmap = held::bitmap();
     let mut owners = held::owners();
-    write_heading();
+    write_heading(&rt);
     let mut s = start();
     while s.left > 0 {
         s = turn(
+            &rt,
             &mut input,
             &mut out,
             &mut marks,

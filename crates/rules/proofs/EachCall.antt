@@ -5,7 +5,6 @@ use Rattle.std.proofs.Common.{◌≡◌, ℕ, true, List, ◌∷◌, refl}
 use Rattle.frames.specs.declared.Frame.{Frame}
 use Rattle.frames.specs.Tables.{Tables, tables}
 use Rattle.rules.specs.declared.Call.{Call}
-use Rattle.rules.specs.declared.Call.TheVariants as Call
 use Rattle.rules.specs.declared.Record.{Record}
 use Rattle.rules.specs.Shape.{shape_wrong}
 use Rattle.rules.specs.Outcomes.{Outcome, Check, ◌⇒◌, checked}

@@ -14,7 +14,6 @@ use Rattle.regions.specs.declared.Region.{Region}
 use Rattle.text.specs.Reading.{Read, gives, refuses, ◌then◌}
 use Rattle.regions.specs.Text.{regions}
 use Rattle.rules.specs.declared.Call.{Call}
-use Rattle.rules.specs.declared.Call.TheVariants as Call
 use Rattle.rules.specs.declared.Counters.{Counters}
 use Rattle.rules.specs.declared.Record.{Record}
 use Rattle.rules.specs.declared.Request.{Request}

@@ -1,12 +1,10 @@
 -- `bitmap::change_from` meets its contract. The loop's invariant: what is left to do to the words as they are is the whole answer.
 -- The measure is the number of bits left. Assumes nothing.
-use Prim.Native.Nat.{ℕ, ◌+◌, ◌<◌, ◌-◌}
-use native.Mathlib.Omega.{arith}
-use mathlib.Core.Path.{◌≡◌, refl, sym, ap, ◌∙◌}
-use lib.ListN.{length, set, length-set}
+use Prim.Native.Nat.{◌<◌}
+use mathlib.Core.Path.{◌≡◌}
+use lib.ListN.{length}
 use Rattle.bitmap.specs.Bits.{change_bits}
 use Rattle.bitmap.specs.Steps.Words.{put_in}
-use Rattle.bitmap.proofs.Runs.{change_none, change_out, change_turn}
 use Rattle.bitmap.proofs.change_from.Given as goal
 
 abbrev pub invariant-loop-left : goal.invariant-loop-left

@@ -2,7 +2,6 @@
 -- Assumes nothing.
 use native.Mathlib.Omega.{arith}
 use mathlib.Core.Path.{sym}
-use borrow.Author.Rules.{rules}
 use Rattle.bitmap.specs.Steps.Words.{put_in}
 use Rattle.bitmap.proofs.Runs.{change_at, change_out}
 use Rattle.bitmap.proofs.change_run.Goals as goal

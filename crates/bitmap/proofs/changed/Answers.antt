@@ -1,6 +1,5 @@
 -- `bitmap::changed` meets its contract: a mask of ones joined in, or the run's own bits taken away. Assumes nothing.
 use native.Mathlib.Omega.{arith}
-use borrow.Author.Rules.{rules}
 use Rattle.bitmap.proofs.Word.{bits_le, set_run_in, clear_run_in}
 use Rattle.bitmap.proofs.changed.Goals as goal
 

@@ -1,5 +1,4 @@
 -- `bitmap::picked` meets its contract: the library's law of a word and a mask. Assumes nothing.
-use borrow.Author.Rules.{rules}
 use lib.Bits.{and_high}
 use Rattle.bitmap.proofs.picked.Goals as goal
 

@@ -1,5 +1,4 @@
 -- `device_calls::free_run` meets its contract: its frames and bits are the definition's. Assumes nothing.
-use borrow.Author.Rules.{rules}
 use native.Mathlib.Omega.{arith}
 use mathlib.Core.Path.{ap, ◌∙◌}
 use Rattle.frames.specs.declared.Area.{Area}

@@ -1,5 +1,4 @@
 -- `device_calls::grant` meets its contract: its first checks refuse the call, or `grant_lowest` does it. Assumes nothing.
-use borrow.Author.Rules.{rules}
 use Rattle.frames.specs.Tables.{Tables, tables}
 use Rattle.rules.specs.declared.Record.{Record}
 use Rattle.rules.specs.Does.{record_with}

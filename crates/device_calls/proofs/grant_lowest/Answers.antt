@@ -1,5 +1,4 @@
 -- `device_calls::grant_lowest` meets its contract: what its search and its last check found says what the call does. Assumes nothing.
-use borrow.Author.Rules.{rules}
 use borrow.Author.Tests.{not-true, not-false}
 use Prim.Native.Nat.{ℕ, ◌-◌, ◌≤◌, ◌<◌}
 use native.Mathlib.Omega.{arith}

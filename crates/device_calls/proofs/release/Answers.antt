@@ -1,5 +1,4 @@
 -- `device_calls::release` meets its contract: what its checks found says what the call does. Assumes nothing.
-use borrow.Author.Rules.{rules}
 use Rattle.frames.specs.Tables.{Tables, tables}
 use Rattle.rules.specs.declared.Record.{Record}
 use Rattle.rules.specs.Outcomes.{Passed}

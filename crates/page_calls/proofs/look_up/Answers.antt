@@ -1,6 +1,5 @@
 -- `page_calls::look_up` meets its contract: its tests are the definition's, in the definition's order. The marks have an entry for each
 -- frame, so what the scan finds below their length is a place of memory. Assumes nothing.
-use borrow.Author.Rules.{rules}
 use borrow.Author.Tests.{not-true, not-false}
 use mathlib.Core.Path.{sym, ◌∙◌}
 use Rattle.page_calls.specs.Steps.Look.{look_up}

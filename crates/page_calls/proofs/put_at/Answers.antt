@@ -1,7 +1,6 @@
 -- `page_calls::put_at` meets its contract: what the two scans find is the place that the definition takes. Assumes nothing.
 use Rattle.page_calls.proofs.Puts.{put_at_found, put_at_fixed, put_at_area}
 use mathlib.Core.Path.{sym}
-use borrow.Author.Rules.{rules}
 use Rattle.page_calls.proofs.put_at.Goals as goal
 
 pub returns-then-ordinary-marks : goal.returns-then-ordinary-marks

@@ -7,7 +7,6 @@ use lib.ListN.{length}
 use Prim.Native.Nat.{◌≤◌}
 use mathlib.Core.Path.{subst}
 use native.Mathlib.Omega.{arith}
-use borrow.Author.Rules.{rules}
 use Rattle.page_calls.proofs.put_new.Goals as goal
 
 pub put_at-page-requires : goal.put_at-page-requires

@@ -4,7 +4,6 @@ use Rattle.page_calls.proofs.Puts.{put_live, put_refused}
 use Rattle.shape.proofs.Returns.{returns_it}
 use Rattle.page_calls.specs.declared.Found.TheVariants.{Not}
 use mathlib.Core.Path.{sym, ap, ◌∙◌}
-use borrow.Author.Rules.{rules}
 use Rattle.page_calls.proofs.put_page.Goals as goal
 
 pub returns-then-number-ne-NOT_LIVE : goal.returns-then-number-ne-NOT_LIVE

@@ -1,5 +1,4 @@
 -- `playback::answer_one` meets its contract: the line has room, and its step can be counted. Assumes nothing.
-use borrow.Author.Rules.{rules}
 use native.Mathlib.Omega.{arith}
 use lib.ListN.{length}
 use Rattle.frames.specs.Tables.{Tables, tables}

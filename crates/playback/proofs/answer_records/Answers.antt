@@ -1,7 +1,7 @@
 -- `playback::answer_records` meets its contract: before each turn, what all records come to is what the rest come to from there on. Assumes
 -- nothing.
 use borrow.Author.Rules.{rules}
-use Prim.Native.Nat.{ℕ, ◌+◌, ◌-◌}
+use Prim.Native.Nat.{ℕ, ◌+◌}
 use native.Mathlib.Omega.{arith}
 use mathlib.Core.Path.{◌≡◌, refl, sym, ap, ◌∙◌}
 use mathlib.Core.Bool.{true}
@@ -9,11 +9,10 @@ use mathlib.Core.List.{List}
 use lib.ListN.{length}
 use borrow.Author.Tests.{not-true, not-false}
 use Rattle.frames.specs.Tables.{tables}
-use Rattle.rules.specs.Limits.{most_area_numbers}
 use Rattle.records.proofs.Decoding.{Within, whole_within}
 use Rattle.playback.specs.Playback.{has_room_for, Playing, playing}
 use Rattle.playback.specs.Steps.Going.{progress_with}
-use Rattle.playback.proofs.Records.{Same, Turn, begins, full, all, turn, unknown, cut, whole, one_at}
+use Rattle.playback.proofs.Records.{Turn, begins, full, all, turn, unknown, cut, whole, one_at}
 use mathlib.Core.Bool.{not}
 use Rattle.playback.proofs.answer_records.Goals as goal
 

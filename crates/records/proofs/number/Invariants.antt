@@ -1,10 +1,7 @@
 -- `records::number` meets its contract: from the highest byte down, `value` is the number in the bytes passed. Assumes nothing.
-use Prim.Native.Nat.{ℕ, ◌+◌, ◌-◌, ◌*◌, ◌^◌, ◌≤◌, ◌<◌}
-use native.Mathlib.Omega.{arith}
-use mathlib.Core.Path.{◌≡◌, sym, ap, ◌∙◌}
-use lib.ListN.{get_or}
+use Prim.Native.Nat.{◌+◌, ◌-◌, ◌≤◌}
+use mathlib.Core.Path.{◌≡◌}
 use Rattle.records.specs.Records.{little}
-use Rattle.records.proofs.Little.{little_none, little_turn, little_fits}
 use Rattle.records.proofs.number.Given as goal
 
 abbrev pub invariant-loop-i : goal.invariant-loop-i

@@ -1,5 +1,4 @@
 -- `records::release` meets its contract: each field is what `number` reads at its offset. Assumes nothing.
-use borrow.Author.Rules.{rules}
 use native.Mathlib.Nat.{add-zero}
 use Rattle.records.specs.Records.{body_at, body_of, bodies, numbers}
 use Rattle.records.proofs.release.Goals as goal

@@ -1,6 +1,5 @@
 -- `regions::read_regions` meets its contract: a reader begins, and each turn reads one region more. Assumes nothing.
-use Rattle.std.proofs.Common.{◌≡◌, ◌<◌, length}
-use Rattle.regions.specs.Steps.Progress.{one_more}
+use Rattle.std.proofs.Common.{◌≡◌, ◌<◌}
 use Rattle.regions.proofs.Listing.{turns_left, Reading, begins, reads_on}
 use Rattle.regions.proofs.read_regions.Goals as goal
 

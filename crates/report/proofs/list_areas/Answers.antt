@@ -1,11 +1,11 @@
 -- `report::list_areas` meets its contract: the loop has listed the first i areas. The measure is the number of areas left. Assumes nothing.
 use native.Mathlib.Omega.{arith}
-use Prim.Native.Nat.{◌≤◌, ◌-◌}
-use mathlib.Core.Path.{◌≡◌, sym, ◌∙◌}
+use Prim.Native.Nat.{◌≤◌}
+use mathlib.Core.Path.{◌≡◌}
 use Rattle.search.proofs.Counts.{many_le}
 use Rattle.rules.specs.Limits.{most_frames}
 use Rattle.report.proofs.Sums.{words_most}
-use Rattle.report.proofs.Listing.{Listing, Found, Small, found, listing_start, listing_small, listing_turn}
+use Rattle.report.proofs.Listing.{Found, Small, found, listing_start, listing_small, listing_turn}
 use Rattle.report.proofs.list_areas.Goals as goal
 
 pub loop-i-init : goal.loop-i-init

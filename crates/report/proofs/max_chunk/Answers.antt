@@ -1,5 +1,4 @@
 -- `report::max_chunk` meets its contract: an area's longest stretch has fewer than 2^64 frames. Assumes nothing.
-use borrow.Author.Rules.{rules}
 use Prim.Native.Nat.{ℕ, ◌*◌, ◌^◌, ◌%◌, ◌≤◌}
 use native.Mathlib.Nat.{mul_comm, mul-le-mul, mod-eq_of_lt, div-le_self}
 use native.Mathlib.Omega.{arith}

@@ -1,5 +1,4 @@
 -- `report::put_amount` meets its contract: the label, the number and the unit are appended one after the other. Assumes nothing.
-use borrow.Author.Rules.{rules}
 use Prim.Native.Nat.{ℕ}
 use native.Mathlib.Omega.{arith}
 use mathlib.Core.List.{List, [], ◌∷◌, ◌++◌}

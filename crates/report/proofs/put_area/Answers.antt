@@ -1,5 +1,4 @@
 -- `report::put_area` meets its contract: the label and the four numbers are appended one after the other. Assumes nothing.
-use borrow.Author.Rules.{rules}
 use Prim.Native.Nat.{ℕ}
 use native.Mathlib.Omega.{arith}
 use mathlib.Core.List.{List, [], ◌∷◌}

@@ -1,5 +1,4 @@
 -- `report::put_both` meets its contract: both texts are appended, one after the other, where both have room. Assumes nothing.
-use borrow.Author.Rules.{rules}
 use native.Mathlib.Omega.{arith}
 use mathlib.Core.List.{◌++◌}
 use lib.ListN.{length, length-append}

@@ -1,5 +1,4 @@
 -- `report::put_report` meets its contract: the sums' lines and the areas' lines are the report. Assumes nothing.
-use borrow.Author.Rules.{rules}
 use native.Mathlib.Omega.{arith}
 use Prim.Native.Nat.{ℕ, ◌*◌}
 use native.Mathlib.Nat.{sub-zero}

@@ -1,5 +1,4 @@
 -- `report::report` meets its contract. Assumes nothing.
-use borrow.Author.Rules.{rules}
 use borrow.Author.Tests.{not-true, not-false}
 use mathlib.Core.Path.{sym, ◌∙◌}
 use Rattle.shape.proofs.Returns.{returns_it}

@@ -16,7 +16,6 @@ use Rattle.frames.specs.Marks.{field_of, mark_of, has_kind, is_page_of, is_grant
 use Rattle.frames.specs.Tables.{Tables, mark_at, word_at, set_page, fill, fill_pages, with_bitmap, with_owners}
 use Rattle.text.specs.Reading.{Read, gives, refuses}
 use Rattle.rules.specs.declared.Call.{Call}
-use Rattle.rules.specs.declared.Call.TheVariants as Call
 use Rattle.rules.specs.declared.Request.{Request}
 use Rattle.rules.specs.declared.Record.{Record}
 use Rattle.rules.specs.Record.{place_of, frame_at}

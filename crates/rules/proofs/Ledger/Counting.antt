@@ -5,7 +5,7 @@
 use Rattle.std.proofs.Common.{◌≡◌, ℕ, ◌+◌, ◌%◌, ◌<◌, ◌≤◌, Bool, true, false, not, ◌&&◌, ◌||◌, eqb, List, [], ◌∷◌, ◌++◌, length, sym, refl, ap, ◌∙◌, arith}
 use Rattle.search.specs.Choice.{if◌then◌else◌}
 use borrow.Author.Tests.{not-true}
-use Rattle.search.proofs.Bools.{by_cases, clash, and_left, and_right, and_both}
+use Rattle.search.proofs.Bools.{by_cases, and_left, and_right, and_both}
 use Rattle.rules.specs.declared.Call.{Call}
 use Rattle.rules.specs.declared.Counters.{Counters}
 use Rattle.rules.specs.Counters.{after_grant, counted, since}

@@ -8,7 +8,6 @@ use Rattle.frames.specs.Units.{place}
 use Rattle.frames.specs.Marks.{mark_of, has_kind, is_page_of, is_granted, pinned}
 use Rattle.frames.specs.Tables.{Tables, mark_at, word_at, set_page}
 use Rattle.rules.specs.declared.Call.{Call}
-use Rattle.rules.specs.declared.Call.TheVariants as Call
 use Rattle.rules.specs.declared.Record.{Record}
 use Rattle.rules.specs.Record.{frame_at}
 use Rattle.rules.specs.Outcomes.{outcome}

@@ -5,7 +5,7 @@ use Rattle.search.proofs.Bools.{by_cases, clash, and_left, or_true_right}
 use Rattle.search.proofs.Lowest.{found_passes}
 use Rattle.frames.specs.declared.Place.{Place}
 use Rattle.frames.specs.Units.{place}
-use Rattle.frames.specs.Marks.{mark_of, is_page_of, movable, pinned}
+use Rattle.frames.specs.Marks.{mark_of, is_page_of, movable}
 use Rattle.frames.specs.Tables.{Tables, mark_at, set_page}
 use Rattle.rules.specs.declared.Call.{Call}
 use Rattle.rules.specs.declared.Record.{Record}

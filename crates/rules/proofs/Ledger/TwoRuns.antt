@@ -7,7 +7,6 @@ use Rattle.search.proofs.Bools.{by_cases, clash, and_left, and_right}
 use Rattle.answer.specs.declared.Answer.{Answer}
 use Rattle.frames.specs.Tables.{Tables}
 use Rattle.rules.specs.declared.Call.{Call}
-use Rattle.rules.specs.declared.Call.TheVariants as Call
 use Rattle.rules.specs.declared.Counters.{Counters}
 use Rattle.rules.specs.declared.Record.{Record}
 use Rattle.rules.specs.Counters.{counted}

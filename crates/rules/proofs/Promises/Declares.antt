@@ -19,7 +19,7 @@ use Rattle.rules.specs.Promises.Pages.{FreeOrdinary}
 use Rattle.rules.specs.Promises.Rounded.{Divides, RoundedUp}
 use Rattle.rules.specs.Promises.Declares.{AtBase, Anywhere, Judged, Highest, DeclareKeepsToLimit, DeclareDoes, AcceptedDeclare}
 use Rattle.rules.proofs.Checks.{checked_cases, checked_passed}
-use Rattle.rules.proofs.Rounding.{Amounts, amounts, in_pages, limit_given}
+use Rattle.rules.proofs.Rounding.{Amounts, in_pages, limit_given}
 use Rattle.rules.proofs.Placed.{Placed, placed, Declarable, declarable}
 use Rattle.rules.proofs.Promises.HighestPlace.{declare_takes_highest}
 use Rattle.rules.proofs.Says.{says_and, says_not, says_eqb}

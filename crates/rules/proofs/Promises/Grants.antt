@@ -1,7 +1,6 @@
 -- Grant keeps demand 2: it answers as the plain quantifiers over all candidates say. Assumes nothing.
 use Rattle.std.proofs.Common.{◌≡◌, ℕ, ◌<◌, ◌≤◌, Bool, false, ◌||◌, eqb, ltb, sym, ap, ◌∙◌, ap₂, arith, pow_pos, le-ltb, lt-ltb, le-leb, leb-false}
 use borrow.Author.Tests.{eqb-false, lt-leb}
-use Rattle.search.specs.Search.{lowest}
 use Rattle.search.proofs.Bools.{below_or_not, clash, or_left, or_right}
 use Rattle.search.proofs.Lowest.{found_passes, found_low}
 use Rattle.answer.specs.declared.Answer.{Answer}

@@ -3,7 +3,6 @@ use Rattle.std.proofs.Common.{◌≡◌, ℕ, ◌≢◌, List, length, refl}
 use Rattle.frames.specs.declared.Frame.{Frame}
 use Rattle.frames.specs.Tables.{Tables}
 use Rattle.rules.specs.declared.Call.{Call}
-use Rattle.rules.specs.declared.Call.TheVariants as Call
 use Rattle.rules.specs.declared.Record.{Record}
 use Rattle.rules.specs.Outcomes.{Outcome, Check}
 use Rattle.rules.specs.PageCalls as Page

@@ -7,7 +7,6 @@ use Rattle.search.proofs.Bools.{by_cases, clash}
 use Rattle.frames.specs.Tables.{Tables}
 use Rattle.text.specs.Reading.{Read, gives, refuses}
 use Rattle.rules.specs.declared.Call.{Call}
-use Rattle.rules.specs.declared.Call.TheVariants as Call
 use Rattle.rules.specs.declared.Counters.{Counters}
 use Rattle.rules.specs.declared.Record.{Record}
 use Rattle.rules.specs.Counters.{after_grant, counted}

@@ -1,5 +1,5 @@
 -- `rules::since` meets its contract. Assumes nothing.
-use Rattle.std.proofs.Common.{arith, rules}
+use Rattle.std.proofs.Common.{arith}
 use Rattle.rules.specs.Counters.{since}
 use Rattle.rules.proofs.since.Goals as goal
 

@@ -5,7 +5,6 @@ use Rattle.std.specs.Prelude.{ℕ, Bool, true, false, nat_eq}
 use Rattle.search.specs.Choice.{if◌then◌else◌}
 use Rattle.frames.specs.Units.{frame}
 use Rattle.rules.specs.declared.Call.{Call}
-use Rattle.rules.specs.declared.Call.TheVariants as Call
 use Rattle.rules.specs.Ledger.Ledger.{Ledger, grant_of, with_page, with_grant, end_grant, with_device_word}
 
 pub record Role : Type 0 where

@@ -8,7 +8,6 @@ use Rattle.frames.specs.Units.{frame, place}
 use Rattle.frames.specs.Marks.{kind_of, mark_of, is_page_of, is_granted, pinned, fixed}
 use Rattle.frames.specs.Tables.{Tables, mark_at, word_at}
 use Rattle.rules.specs.declared.Call.{Call}
-use Rattle.rules.specs.declared.Call.TheVariants as Call
 use Rattle.rules.specs.declared.Counters.{Counters}
 use Rattle.rules.specs.declared.Record.{Record}
 use Rattle.rules.specs.Record.{place_of, frame_at, end_frame}

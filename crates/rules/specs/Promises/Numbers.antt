@@ -8,7 +8,6 @@ use Rattle.regions.specs.declared.Region.{Region}
 use Rattle.text.specs.Reading.{gives, refuses}
 use Rattle.regions.specs.Text.{regions}
 use Rattle.rules.specs.declared.Call.{Call}
-use Rattle.rules.specs.declared.Call.TheVariants as Call
 use Rattle.rules.specs.declared.Request.{Request}
 use Rattle.rules.specs.declared.Record.{Record}
 use Rattle.rules.specs.Record.{bare_record, area_at}

@@ -5,7 +5,6 @@ use Rattle.shape.proofs.Returns.{returns_it}
 use Rattle.frames.specs.Tables.{tables}
 use Rattle.rules.specs.Does.{record_with}
 use native.Mathlib.Omega.{arith}
-use borrow.Author.Rules.{rules}
 use mathlib.Core.Path.{refl}
 use mathlib.Core.Bool.{not}
 use mathlib.Core.Path.{ap}

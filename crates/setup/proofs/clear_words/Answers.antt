@@ -4,7 +4,6 @@ use Rattle.frames.specs.Tables.{fill}
 use mathlib.Core.Path.{◌≡◌, ap₂, ◌∙◌}
 use Prim.Native.Nat.{ℕ}
 use native.Mathlib.Omega.{arith}
-use borrow.Author.Rules.{rules}
 use Rattle.setup.proofs.clear_words.Goals as goal
 
 pub returns : goal.returns

@@ -8,7 +8,6 @@ use Rattle.rules.specs.Declare as Declare
 use Rattle.setup.proofs.AllAreas.{asked, lacking}
 use native.Mathlib.Omega.{arith}
 use mathlib.Core.Path.{◌∙◌}
-use borrow.Author.Rules.{rules}
 use mathlib.Core.Bool.{not}
 use mathlib.Core.Path.{ap}
 use Rattle.setup.proofs.declare.Goals as goal

@@ -1,6 +1,5 @@
 -- `shape::apart` meets its contract: each test decides which of the two ends can be at or below the other's first frame.
 -- Assumes nothing.
-use borrow.Author.Rules.{rules}
 use borrow.Author.Tests.{le-leb, lt-leb, eq-eqb, ne_eqb}
 use native.Mathlib.Omega.{arith}
 use Prim.Native.Nat.{◌-◌, ◌<◌}

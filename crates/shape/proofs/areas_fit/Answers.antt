@@ -1,9 +1,8 @@
 -- `shape::areas_fit` meets its contract: the loop has found that each area below i fits, and keeps a room that is free of them.
 -- Assumes nothing.
-use borrow.Author.Rules.{rules}
 use borrow.Author.Tests.{not-true, not-false}
 use native.Mathlib.Omega.{arith}
-use Prim.Native.Nat.{ℕ, ◌≤◌, ◌-◌}
+use Prim.Native.Nat.{ℕ, ◌≤◌}
 use mathlib.Core.Path.{◌≡◌, sym, ◌∙◌}
 use mathlib.Core.Bool.{true, false}
 use Rattle.search.specs.Search.{every}
@@ -17,7 +16,6 @@ use Rattle.rules.specs.Shape.{area_right, area_fits}
 use Rattle.rules.specs.Does.{record_with}
 use Rattle.rules.proofs.Shapes.{memory_known}
 use Rattle.rules.proofs.AreaRight.{right_facts}
-use Rattle.shape.specs.Steps.Rooms.{IsFree}
 use Rattle.shape.proofs.Rooms.{does_lie}
 use mathlib.Core.Bool.{not}
 use mathlib.Core.Path.{ap}

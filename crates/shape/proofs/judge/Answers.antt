@@ -1,6 +1,5 @@
 -- `shape::judge` meets its contract: in a room that is free of the areas before it the area is apart from them, and what it leaves of a room
 -- in which it lies, the one that was kept or the one around it, is free of all. Assumes nothing.
-use borrow.Author.Rules.{rules}
 use borrow.Author.Tests.{not-true, not-false}
 use mathlib.Core.Path.{sym, ◌∙◌}
 use mathlib.Core.Bool.{true≢false}

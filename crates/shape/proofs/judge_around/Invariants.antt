@@ -1,15 +1,9 @@
 -- `shape::judge_around` meets its contract: the loop's room holds the area, and is free of each area below k; so the area is apart from all of them
 -- where it comes to the end. Assumes nothing.
-use borrow.Author.Rules.{rules}
-use borrow.Author.Tests.{not-true, not-false}
-use native.Mathlib.Omega.{arith}
 use Prim.Native.Nat.{◌≤◌, ◌-◌}
-use mathlib.Core.Path.{◌≡◌, sym, ◌∙◌}
-use mathlib.Core.Bool.{true, true≢false}
-use Rattle.search.proofs.Ranges.{every_miss}
-use Rattle.frames.specs.Areas.{area_in, are_disjoint}
+use mathlib.Core.Path.{◌≡◌}
+use mathlib.Core.Bool.{true}
 use Rattle.shape.specs.Steps.Rooms.{lies_in, IsFree}
-use Rattle.shape.proofs.Rooms.{in_free, part_free}
 use Rattle.shape.proofs.judge_around.Given as goal
 
 abbrev pub invariant-loop-k : goal.invariant-loop-k

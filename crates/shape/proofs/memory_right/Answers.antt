@@ -1,6 +1,5 @@
 -- `shape::memory_right` meets its contract: each test is one of the definition's, and the sum that could wrap is tested as a difference.
 -- Assumes nothing.
-use borrow.Author.Rules.{rules}
 use borrow.Author.Tests.{le-leb, lt-leb}
 use Prim.Native.Nat.{◌+◌}
 use native.Mathlib.Omega.{arith}

@@ -1,6 +1,5 @@
 -- `shape::past_other` meets its contract: an area that is apart from another and does not begin after it ends before it, and one that does
 -- begins after its end. Assumes nothing.
-use borrow.Author.Rules.{rules}
 use native.Mathlib.Omega.{arith}
 use Prim.Native.Nat.{◌≤◌, ◌<◌}
 use mathlib.Core.Path.{◌≡◌}

@@ -1,6 +1,5 @@
 -- `shape::shape_right` meets its contract: each test is one of the definition's, and one that fails makes the whole false.
 -- Assumes nothing.
-use borrow.Author.Rules.{rules}
 use borrow.Author.Tests.{le-leb, lt-leb, eq-eqb, ne_eqb, not-true, not-false}
 use native.Mathlib.Omega.{arith}
 use mathlib.Core.Path.{sym, ◌∙◌}

@@ -3,7 +3,7 @@
 use Prim.Native.Nat.{◌-◌, ◌≤◌, max}
 use native.Mathlib.Omega.{arith}
 use mathlib.Core.Path.{◌≡◌}
-use Rattle.bitmap.proofs.Rows.{Rows, Turned, rows_start, rows_turn, rows_end, gap_high}
+use Rattle.bitmap.proofs.Rows.{Turned, rows_start, rows_turn, rows_end, gap_high}
 use Rattle.bitmap.proofs.longest.longest_clear.Goals as goal
 
 pub loop-found-init : goal.loop-found-init

@@ -1,9 +1,7 @@
 -- `bitmap::longest::longest_clear` meets its contract. The loop's invariant: a row of that many clear bits was found, and none that begins before
 -- `from` is longer. The measure is the number of bits left. Assumes nothing.
-use Prim.Native.Nat.{◌-◌, ◌≤◌, max}
-use native.Mathlib.Omega.{arith}
-use mathlib.Core.Path.{◌≡◌}
-use Rattle.bitmap.proofs.Rows.{Rows, Turned, rows_start, rows_turn, rows_end, gap_high}
+use Prim.Native.Nat.{◌-◌}
+use Rattle.bitmap.proofs.Rows.{Rows}
 use Rattle.bitmap.proofs.longest.longest_clear.Given as goal
 
 abbrev pub invariant-loop-found : goal.invariant-loop-found

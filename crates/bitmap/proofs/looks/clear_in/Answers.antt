@@ -2,7 +2,6 @@
 use Prim.Native.Nat.{◌/◌, ◌^◌}
 use native.Mathlib.Omega.{arith}
 use lib.Count.{trailing_le}
-use borrow.Author.Rules.{rules}
 use Rattle.bitmap.proofs.Zeros.{zeros_none, zeros_found, zeros_left}
 use Rattle.bitmap.proofs.looks.clear_in.Goals as goal
 

@@ -6,7 +6,7 @@ use mathlib.Core.Path.{refl, subst}
 use lib.ListN.{get_or}
 use Rattle.search.proofs.Lowest.{lowest_le}
 use Rattle.bitmap.specs.Steps.Looks.{Hits}
-use Rattle.bitmap.proofs.Finds.{Passing, pass_start, pass_out, pass_found, pass_turn, pass_end}
+use Rattle.bitmap.proofs.Finds.{pass_start, pass_out, pass_found, pass_turn, pass_end}
 use Rattle.bitmap.proofs.looks.passed_from.Goals as goal
 
 pub loop-passed-init : goal.loop-passed-init

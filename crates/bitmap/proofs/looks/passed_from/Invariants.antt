@@ -1,12 +1,7 @@
 -- `bitmap::looks::passed_from` meets its contract. The loop's invariant: what is left of the search, and that as many looks are counted as words
 -- were passed. The measure is the number of bits left. Assumes nothing.
-use Prim.Native.Nat.{ℕ, ◌-◌, ◌≤◌}
-use native.Mathlib.Omega.{arith}
-use mathlib.Core.Path.{refl, subst}
-use lib.ListN.{get_or}
-use Rattle.search.proofs.Lowest.{lowest_le}
-use Rattle.bitmap.specs.Steps.Looks.{Hits}
-use Rattle.bitmap.proofs.Finds.{Passing, pass_start, pass_out, pass_found, pass_turn, pass_end}
+use Prim.Native.Nat.{◌-◌}
+use Rattle.bitmap.proofs.Finds.{Passing}
 use Rattle.bitmap.proofs.looks.passed_from.Given as goal
 
 abbrev pub invariant-loop-passed : goal.invariant-loop-passed

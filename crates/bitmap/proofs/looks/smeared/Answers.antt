@@ -1,8 +1,6 @@
 -- `bitmap::looks::smeared` meets its contract. The loop's invariant: the word tells of `told` bits of the word given, from each bit on.
 -- The measure is how many bits are left to tell of. Assumes nothing.
-use Prim.Native.Nat.{◌-◌, ◌≤◌, ◌<◌}
 use native.Mathlib.Omega.{arith}
-use Rattle.bitmap.specs.Steps.Looks.{Smears}
 use Rattle.bitmap.proofs.Smears.{smear_none, smear_more, smear_to}
 use Rattle.bitmap.proofs.looks.smeared.Goals as goal
 

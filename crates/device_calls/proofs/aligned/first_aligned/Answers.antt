@@ -1,6 +1,5 @@
 -- `device_calls::aligned::first_aligned` meets its contract: the area begins on a multiple, or the distance up to the next is whole bits.
 -- Assumes nothing.
-use borrow.Author.Rules.{rules}
 use Prim.Native.Nat.{ℕ, ◌+◌, ◌-◌, ◌/◌, ◌%◌, ◌^◌, ◌≤◌, ◌<◌}
 use native.Mathlib.Omega.{arith}
 use native.Mathlib.Nat.{mod-lt}

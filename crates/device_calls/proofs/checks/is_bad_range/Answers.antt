@@ -1,5 +1,4 @@
 -- `device_calls::checks::is_bad_range` meets its contract: its tests are the definition's. Assumes nothing.
-use borrow.Author.Rules.{rules}
 use mathlib.Core.Path.{ap, ◌∙◌}
 use borrow.Author.Tests.{le-leb, lt-leb, eq-eqb, ne_eqb}
 use Rattle.search.proofs.Bools.{or_neither}

@@ -1,5 +1,4 @@
 -- `device_calls::checks::is_bad_release` meets its contract: the first test or the second. Assumes nothing.
-use borrow.Author.Rules.{rules}
 use mathlib.Core.Path.{sym, ◌∙◌}
 use Rattle.device_calls.proofs.ReleaseOutcomes.{first_holds, second_decides}
 use Rattle.device_calls.proofs.checks.is_bad_release.Goals as goal

@@ -1,5 +1,4 @@
 -- `device_calls::checks::is_bad_request` meets its contract: its tests are the definition's. Assumes nothing.
-use borrow.Author.Rules.{rules}
 use borrow.Author.Tests.{le-leb, lt-leb, eq-eqb, ne_eqb, lt-ltb, le-ltb}
 use Rattle.device_calls.proofs.checks.is_bad_request.Goals as goal
 

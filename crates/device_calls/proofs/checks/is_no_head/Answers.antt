@@ -1,5 +1,4 @@
 -- `device_calls::checks::is_no_head` meets its contract: its tests are the definition's. Assumes nothing.
-use borrow.Author.Rules.{rules}
 use native.Mathlib.Omega.{arith}
 use lib.Pow.{pow_pos}
 use Rattle.device_calls.proofs.ReleaseOutcomes.{off_yes, off_no, first_holds, second_decides}

@@ -1,5 +1,4 @@
 -- `device_calls::checks::is_not_owner` meets its contract: its test is the definition's. Assumes nothing.
-use borrow.Author.Rules.{rules}
 use native.Mathlib.Omega.{arith}
 use Rattle.device_calls.proofs.checks.is_not_owner.Goals as goal
 

@@ -1,6 +1,5 @@
 -- `device_calls::checks::is_outside` meets its contract: its tests are the definition's. Assumes nothing.
 use borrow.Author.Tests.{lt-ltb, le-ltb}
-use borrow.Author.Rules.{rules}
 use Rattle.device_calls.proofs.checks.is_outside.Goals as goal
 
 pub returns-then-frame-memory : goal.returns-then-frame-memory

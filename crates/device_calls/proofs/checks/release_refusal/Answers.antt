@@ -1,5 +1,4 @@
 -- `device_calls::checks::release_refusal` meets its contract: its tests are the definition's, in the definition's order. Assumes nothing.
-use borrow.Author.Rules.{rules}
 use borrow.Author.Tests.{not-false}
 use mathlib.Core.Path.{◌≡◌, sym, ap, ap₂, ◌∙◌}
 use mathlib.Core.Bool.{Bool, true, false, not, ◌||◌}

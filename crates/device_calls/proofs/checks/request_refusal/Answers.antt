@@ -1,5 +1,4 @@
 -- `device_calls::checks::request_refusal` meets its contract: its tests are the definition's, in the definition's order. Assumes nothing.
-use borrow.Author.Rules.{rules}
 use mathlib.Core.Path.{sym, ap, ◌∙◌}
 use mathlib.Core.Bool.{not}
 use Rattle.rules.specs.Outcomes.{here, there}

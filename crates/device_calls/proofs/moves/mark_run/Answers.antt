@@ -1,7 +1,5 @@
 -- `device_calls::moves::mark_run` meets its contract. Assumes nothing.
-use borrow.Author.Rules.{rules}
-use mathlib.Core.Path.{refl, ◌∙◌}
-use lib.ListN.{length-set}
+use mathlib.Core.Path.{refl}
 use Rattle.device_calls.proofs.GrantOutcomes.{run_marked}
 use Rattle.device_calls.proofs.moves.mark_run.Goals as goal
 

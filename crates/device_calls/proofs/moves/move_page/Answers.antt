@@ -1,5 +1,4 @@
 -- `device_calls::moves::move_page` meets its contract. Assumes nothing.
-use borrow.Author.Rules.{rules}
 use native.Mathlib.Omega.{arith}
 use mathlib.Core.List.{[]}
 use Rattle.frames.specs.Tables.{tables}

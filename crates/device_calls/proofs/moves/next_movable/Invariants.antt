@@ -1,11 +1,8 @@
 -- `device_calls::moves::next_movable` meets its contract: what is left to search is the range from `i` on. Assumes nothing.
 use Prim.Native.Nat.{◌-◌}
-use native.Mathlib.Omega.{arith}
-use borrow.Author.Tests.{eq-eqb, ne_eqb}
-use borrow.Author.Rules.{rules}
 use Rattle.frames.specs.Marks.{has_kind, movable}
 use Rattle.frames.specs.Scans.{marked}
-use Rattle.frames.proofs.ScanFacts.{Seeking, seek_start, seek_turn, seek_hit, seek_end}
+use Rattle.frames.proofs.ScanFacts.{Seeking}
 use Rattle.device_calls.proofs.moves.next_movable.Given as goal
 
 abbrev pub invariant-loop-i : goal.invariant-loop-i

@@ -1,6 +1,5 @@
 -- `device_calls::runs::find_run` meets its contract: at the loop's head the bit is aligned, none below it will do, and the bits from it on are
 -- clear as far as is known. Assumes nothing.
-use borrow.Author.Rules.{rules}
 use Prim.Native.Nat.{ℕ, ◌+◌, ◌-◌, ◌*◌, ◌/◌, ◌%◌, ◌^◌, ◌≤◌}
 use native.Mathlib.Omega.{arith}
 use native.Mathlib.Nat.{div-le_self}
@@ -17,10 +16,10 @@ use Rattle.rules.specs.Limits.{most_frames, most_end, most_block_order, most_ali
 use Rattle.rules.specs.Does.{record_with}
 use Rattle.rules.proofs.Divisions.{up_low}
 use Rattle.device_calls.specs.declared.runs.Wanted.{Wanted}
-use Rattle.device_calls.specs.Steps.DeviceSteps.{is_aligned, ClearTo}
+use Rattle.device_calls.specs.Steps.DeviceSteps.{is_aligned}
 use Rattle.device_calls.proofs.Alignment.{Steps, steps_known, aligned_is}
 use Rattle.device_calls.proofs.Tries.{clear_on}
-use Rattle.device_calls.proofs.GrantSearch.{Looking, look_none, look_start, look_hit, look_skip, look_end, found_chosen}
+use Rattle.device_calls.proofs.GrantSearch.{look_none, look_start, look_hit, look_skip, look_end, found_chosen}
 use Rattle.device_calls.proofs.runs.find_run.Goals as goal
 
 pub returns-then-all-bits : goal.returns-then-all-bits

@@ -1,5 +1,4 @@
 -- `device_calls::units::block_of` meets its contract: one shifted by less than the width is exact. Assumes nothing.
-use borrow.Author.Rules.{rules}
 use native.Mathlib.Nat.{one-mul}
 use native.Mathlib.Omega.{arith}
 use mathlib.Core.Path.{◌∙◌}

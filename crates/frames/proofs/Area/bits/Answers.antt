@@ -3,7 +3,6 @@ use native.Mathlib.Omega.{arith}
 use native.Mathlib.Nat.{div-eq_of_lt}
 use mathlib.Core.Path.{sym}
 use lib.Pow.{pow_mono}
-use borrow.Author.Rules.{rules}
 use Rattle.frames.proofs.Area.bits.Goals as goal
 
 pub returns-then-self-ge64 : goal.returns-then-self-ge64

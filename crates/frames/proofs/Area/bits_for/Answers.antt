@@ -3,7 +3,6 @@ use Prim.Native.Nat.{◌^◌}
 use native.Mathlib.Omega.{arith}
 use mathlib.Core.Path.{sym, ap, ◌∙◌}
 use lib.Pow.{pow_pos, pow_mono}
-use borrow.Author.Rules.{rules}
 use Rattle.frames.specs.Areas.{ceiling}
 use Rattle.frames.proofs.AreaFacts.{ceiling_one, ceiling_zero, one_shl}
 use Rattle.frames.proofs.Area.bits_for.Goals as goal

@@ -1,7 +1,6 @@
 -- `frames::Area::end_place` meets its contract: by the area's distance from the table's first frame. Assumes nothing.
 use native.Mathlib.Omega.{arith}
 use mathlib.Core.Path.{ap}
-use borrow.Author.Rules.{rules}
 use Rattle.frames.specs.declared.Place.{Place}
 use Rattle.frames.proofs.Area.end_place.Goals as goal
 

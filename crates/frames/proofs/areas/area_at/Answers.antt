@@ -1,7 +1,6 @@
 -- `frames::areas::area_at` meets its contract: number by number. Assumes nothing.
 use native.Mathlib.Omega.{arith}
 use mathlib.Core.Path.{sym}
-use borrow.Author.Rules.{rules}
 use Rattle.frames.proofs.AreaNumbers.{area_past}
 use Rattle.frames.proofs.areas.area_at.Goals as goal
 

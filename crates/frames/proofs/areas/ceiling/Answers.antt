@@ -1,6 +1,5 @@
 -- `frames::areas::ceiling` meets its contract: by the rest of the division. Assumes nothing.
 use mathlib.Core.Path.{sym}
-use borrow.Author.Rules.{rules}
 use Rattle.frames.proofs.AreaFacts.{ceiling_exact, ceiling_more, div_below}
 use Rattle.frames.proofs.areas.ceiling.Goals as goal
 

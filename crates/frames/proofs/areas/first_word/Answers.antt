@@ -1,10 +1,5 @@
 -- `frames::areas::first_word` meets its contract: the words of the areas passed, up to the largest number. Assumes nothing.
-use Prim.Native.Nat.{◌-◌, ◌≤◌, min}
 use native.Mathlib.Omega.{arith}
-use mathlib.Core.Path.{◌≡◌}
-use borrow.Author.Rules.{rules}
-use Rattle.frames.specs.Units.{most_number}
-use Rattle.frames.specs.Areas.{first_word}
 use Rattle.frames.proofs.AreaFacts.{first_word_zero, first_word_next, first_word_clip}
 use Rattle.frames.proofs.areas.first_word.Goals as goal
 

@@ -1,7 +1,6 @@
 -- `frames::areas::set_area` meets its contract: number by number. Assumes nothing.
 use native.Mathlib.Omega.{arith}
 use mathlib.Core.Path.{sym}
-use borrow.Author.Rules.{rules}
 use Rattle.frames.proofs.AreaNumbers.{set_area_past}
 use Rattle.frames.proofs.areas.set_area.Goals as goal
 

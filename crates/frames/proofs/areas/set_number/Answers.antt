@@ -1,7 +1,6 @@
 -- `frames::areas::set_number` meets its contract. Assumes nothing.
 use mathlib.Core.Path.{sym}
 use lib.Seq.{set_out}
-use borrow.Author.Rules.{rules}
 use Rattle.frames.proofs.areas.set_number.Goals as goal
 
 pub returns-else-at-areas : goal.returns-else-at-areas

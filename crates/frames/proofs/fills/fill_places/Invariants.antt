@@ -1,8 +1,6 @@
 -- `frames::fills::fill_places` meets its contract: what is left to fill falls by one place a turn. Assumes nothing.
 use Prim.Native.Nat.{◌-◌}
-use native.Mathlib.Omega.{arith}
-use borrow.Author.Rules.{rules}
-use Rattle.frames.proofs.FillFacts.{Filling, filling_start, filling_turn, filling_end}
+use Rattle.frames.proofs.FillFacts.{Filling}
 use Rattle.frames.proofs.fills.fill_places.Given as goal
 
 abbrev pub invariant-loop-i : goal.invariant-loop-i

@@ -1,8 +1,6 @@
 -- `frames::marks::are_later` meets its contract: a range that passes the end has a mark that reads 0, which is free; in
 -- any other each place passed is later. Assumes nothing.
-use Prim.Native.Nat.{◌-◌}
 use native.Mathlib.Omega.{arith}
-use borrow.Author.Rules.{rules}
 use borrow.Author.Tests.{eq-eqb, ne_eqb}
 use lib.ListN.{length}
 use mathlib.Core.Path.{sym, ap, ◌∙◌}
@@ -11,7 +9,7 @@ use Rattle.search.proofs.Ranges.{every_none, every_miss}
 use Rattle.frames.specs.Marks.{has_kind, later}
 use Rattle.frames.specs.Scans.{marked}
 use Rattle.frames.proofs.MarkFacts.{past_end}
-use Rattle.frames.proofs.ScanFacts.{Passing, pass_start, pass_turn, pass_fail, pass_end}
+use Rattle.frames.proofs.ScanFacts.{pass_start, pass_turn, pass_fail, pass_end}
 use Rattle.frames.proofs.marks.are_later.Goals as goal
 
 pub returns-then-count-eq0 : goal.returns-then-count-eq0

@@ -1,17 +1,9 @@
 -- `frames::marks::are_later` meets its contract: a range that passes the end has a mark that reads 0, which is free; in
 -- any other each place passed is later. Assumes nothing.
 use Prim.Native.Nat.{◌-◌}
-use native.Mathlib.Omega.{arith}
-use borrow.Author.Rules.{rules}
-use borrow.Author.Tests.{eq-eqb, ne_eqb}
-use lib.ListN.{length}
-use mathlib.Core.Path.{sym, ap, ◌∙◌}
-use Rattle.search.specs.Search.{every}
-use Rattle.search.proofs.Ranges.{every_none, every_miss}
 use Rattle.frames.specs.Marks.{has_kind, later}
 use Rattle.frames.specs.Scans.{marked}
-use Rattle.frames.proofs.MarkFacts.{past_end}
-use Rattle.frames.proofs.ScanFacts.{Passing, pass_start, pass_turn, pass_fail, pass_end}
+use Rattle.frames.proofs.ScanFacts.{Passing}
 use Rattle.frames.proofs.marks.are_later.Given as goal
 
 abbrev pub invariant-loop-i : goal.invariant-loop-i

@@ -1,9 +1,6 @@
 -- `frames::marks::block_has_kind` meets its contract: each turn asks one mark more. Assumes nothing.
-use Prim.Native.Nat.{◌-◌, ◌≤◌}
 use native.Mathlib.Omega.{arith}
-use borrow.Author.Rules.{rules}
-use Rattle.frames.specs.Scans.{marked, has_bits}
-use Rattle.frames.proofs.ScanFacts.{Asking, ask_start, ask_turn, ask_end}
+use Rattle.frames.proofs.ScanFacts.{ask_start, ask_turn, ask_end}
 use Rattle.frames.proofs.marks.block_has_kind.Goals as goal
 
 pub loop-j-init : goal.loop-j-init

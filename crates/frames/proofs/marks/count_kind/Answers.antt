@@ -1,14 +1,12 @@
 -- `frames::marks::count_kind` meets its contract: the count of the places passed, and a mark past the end reads 0, which has
 -- no bit. Assumes nothing.
-use Prim.Native.Nat.{◌-◌, ◌≤◌, ◌+◌}
 use native.Mathlib.Omega.{arith}
 use mathlib.Core.Path.{◌∙◌}
 use mathlib.Core.Logic.{⊎_elim}
-use borrow.Author.Rules.{rules}
 use lib.ListN.{get_or}
-use Rattle.frames.specs.Scans.{marked, bits_are}
+use Rattle.frames.specs.Scans.{bits_are}
 use Rattle.frames.proofs.MarkFacts.{past_end}
-use Rattle.frames.proofs.ScanFacts.{Counting, count_start, count_le, one_le, count_turn, count_end}
+use Rattle.frames.proofs.ScanFacts.{count_start, count_le, one_le, count_turn, count_end}
 use Rattle.frames.proofs.Stuck.{no_bits}
 use Rattle.frames.proofs.marks.count_kind.Goals as goal
 

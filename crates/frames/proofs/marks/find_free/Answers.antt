@@ -1,7 +1,6 @@
 -- `frames::marks::find_free` meets its contract: the range is all the marks. Assumes nothing.
 use Prim.Native.Nat.{◌-◌}
 use mathlib.Core.Path.{sym, ap, ◌∙◌}
-use borrow.Author.Rules.{rules}
 use lib.ListN.{length}
 use Rattle.search.proofs.Lowest.{lowest_start}
 use Rattle.frames.specs.Units.{place}

@@ -1,7 +1,6 @@
 -- `frames::marks::find_page` meets its contract: a name that no mark can hold is at no place. Assumes nothing.
 use native.Mathlib.Omega.{arith}
 use mathlib.Core.Path.{sym, ap, ◌∙◌}
-use borrow.Author.Rules.{rules}
 use lib.ListN.{length, get_or}
 use Rattle.search.proofs.Lowest.{found_none, lowest_start}
 use Rattle.frames.specs.Units.{place}

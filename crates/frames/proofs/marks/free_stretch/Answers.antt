@@ -1,16 +1,13 @@
 -- `frames::marks::free_stretch` meets its contract: stretch by stretch of the ordinary places. Assumes nothing.
-use Prim.Native.Nat.{ℕ, ◌-◌, ◌≤◌}
+use Prim.Native.Nat.{◌-◌}
 use native.Mathlib.Omega.{arith}
 use mathlib.Core.Path.{◌≡◌, ◌∙◌}
-use borrow.Author.Rules.{rules}
 use Rattle.search.specs.Search.{lowest_from}
 use Rattle.search.proofs.Lowest.{Least, lowest_least}
 use Rattle.frames.specs.Marks.{has_kind, free}
-use Rattle.frames.specs.Scans.{marked, is_free_ordinary}
-use Rattle.frames.specs.Orders.{in_use, Ordered}
-use Rattle.frames.specs.Walk.{Behind}
+use Rattle.frames.specs.Scans.{marked}
 use Rattle.frames.proofs.Stuck.{seek_free}
-use Rattle.frames.proofs.ScanFacts.{Seeking, seek_start, seek_end}
+use Rattle.frames.proofs.ScanFacts.{seek_start, seek_end}
 use Rattle.frames.proofs.StretchFacts.{stretch_hit, stretch_skip}
 use Rattle.frames.proofs.marks.free_stretch.Goals as goal
 

@@ -1,17 +1,9 @@
 -- `frames::marks::free_stretch` meets its contract: stretch by stretch of the ordinary places. Assumes nothing.
 use Prim.Native.Nat.{ℕ, ◌-◌, ◌≤◌}
-use native.Mathlib.Omega.{arith}
-use mathlib.Core.Path.{◌≡◌, ◌∙◌}
-use borrow.Author.Rules.{rules}
-use Rattle.search.specs.Search.{lowest_from}
-use Rattle.search.proofs.Lowest.{Least, lowest_least}
-use Rattle.frames.specs.Marks.{has_kind, free}
-use Rattle.frames.specs.Scans.{marked, is_free_ordinary}
+use Rattle.frames.specs.Scans.{is_free_ordinary}
 use Rattle.frames.specs.Orders.{in_use, Ordered}
 use Rattle.frames.specs.Walk.{Behind}
-use Rattle.frames.proofs.Stuck.{seek_free}
-use Rattle.frames.proofs.ScanFacts.{Seeking, seek_start, seek_end}
-use Rattle.frames.proofs.StretchFacts.{stretch_hit, stretch_skip}
+use Rattle.frames.proofs.ScanFacts.{Seeking}
 use Rattle.frames.proofs.marks.free_stretch.Given as goal
 
 abbrev pub invariant-loop-i : goal.invariant-loop-i

@@ -1,10 +1,10 @@
 -- `frames::marks::kind_in` meets its contract: what is left to search is the range from `i` on; a block that has none is passed. Assumes nothing.
-use Prim.Native.Nat.{◌+◌, ◌-◌, ◌≤◌}
+use Prim.Native.Nat.{◌+◌}
 use native.Mathlib.Omega.{arith}
 use mathlib.Core.Path.{sym, ◌∙◌}
 use Rattle.search.proofs.Ranges.{some_no}
 use Rattle.frames.specs.Scans.{marked, has_bits}
-use Rattle.frames.proofs.ScanFacts.{Seeking, seek_start, seek_skip}
+use Rattle.frames.proofs.ScanFacts.{seek_start, seek_skip}
 use Rattle.frames.proofs.marks.kind_in.Goals as goal
 
 pub loop-i-init : goal.loop-i-init

@@ -1,10 +1,7 @@
 -- `frames::marks::kind_in` meets its contract: what is left to search is the range from `i` on; a block that has none is passed. Assumes nothing.
-use Prim.Native.Nat.{◌+◌, ◌-◌, ◌≤◌}
-use native.Mathlib.Omega.{arith}
-use mathlib.Core.Path.{sym, ◌∙◌}
-use Rattle.search.proofs.Ranges.{some_no}
+use Prim.Native.Nat.{◌-◌, ◌≤◌}
 use Rattle.frames.specs.Scans.{marked, has_bits}
-use Rattle.frames.proofs.ScanFacts.{Seeking, seek_start, seek_skip}
+use Rattle.frames.proofs.ScanFacts.{Seeking}
 use Rattle.frames.proofs.marks.kind_in.Given as goal
 
 abbrev pub invariant-loop-i : goal.invariant-loop-i

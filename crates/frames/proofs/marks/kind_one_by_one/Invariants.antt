@@ -1,10 +1,7 @@
 -- `frames::marks::kind_one_by_one` meets its contract: what is left to search is the range from `i` on. Assumes nothing.
 use Prim.Native.Nat.{◌-◌}
-use native.Mathlib.Omega.{arith}
-use mathlib.Core.Path.{sym, ◌∙◌}
-use borrow.Author.Rules.{rules}
 use Rattle.frames.specs.Scans.{marked, has_bits}
-use Rattle.frames.proofs.ScanFacts.{Seeking, seek_start, seek_turn, seek_hit, seek_end}
+use Rattle.frames.proofs.ScanFacts.{Seeking}
 use Rattle.frames.proofs.marks.kind_one_by_one.Given as goal
 
 abbrev pub invariant-loop-i : goal.invariant-loop-i

@@ -1,14 +1,8 @@
 -- `frames::marks::less_free` meets its contract: what is left of the number after the rest of the range. Assumes nothing.
-use Prim.Native.Nat.{ℕ, ◌-◌, ◌≤◌}
-use native.Mathlib.Omega.{arith}
-use mathlib.Core.Path.{◌≡◌, refl, ap, ◌∙◌}
-use mathlib.Core.Logic.{inr}
-use borrow.Author.Rules.{rules}
-use Rattle.search.specs.Search.{how_many}
+use Prim.Native.Nat.{◌-◌, ◌≤◌}
 use Rattle.frames.specs.Marks.{has_kind, free}
 use Rattle.frames.specs.Scans.{marked}
-use Rattle.frames.proofs.Stuck.{count_free}
-use Rattle.frames.proofs.ScanFacts.{Taking, take_part, take_done, take_rest}
+use Rattle.frames.proofs.ScanFacts.{Taking}
 use Rattle.frames.proofs.marks.less_free.Given as goal
 
 abbrev pub invariant-loop-i : goal.invariant-loop-i

@@ -1,10 +1,8 @@
 -- `frames::marks::page_in` meets its contract: what is left to search is the range from `i` on, block by block. Assumes nothing.
-use Prim.Native.Nat.{◌+◌, ◌-◌, ◌≤◌}
+use Prim.Native.Nat.{◌+◌}
 use native.Mathlib.Omega.{arith}
 use mathlib.Core.Path.{sym, ◌∙◌}
-use Rattle.frames.specs.Marks.{is_page_of}
-use Rattle.frames.specs.Scans.{marked}
-use Rattle.frames.proofs.ScanFacts.{Seeking, seek_start, part_hit, part_miss}
+use Rattle.frames.proofs.ScanFacts.{seek_start, part_hit, part_miss}
 use Rattle.frames.proofs.marks.page_in.Goals as goal
 
 pub loop-i-init : goal.loop-i-init

@@ -1,10 +1,8 @@
 -- `frames::marks::page_in` meets its contract: what is left to search is the range from `i` on, block by block. Assumes nothing.
-use Prim.Native.Nat.{◌+◌, ◌-◌, ◌≤◌}
-use native.Mathlib.Omega.{arith}
-use mathlib.Core.Path.{sym, ◌∙◌}
+use Prim.Native.Nat.{◌-◌, ◌≤◌}
 use Rattle.frames.specs.Marks.{is_page_of}
 use Rattle.frames.specs.Scans.{marked}
-use Rattle.frames.proofs.ScanFacts.{Seeking, seek_start, part_hit, part_miss}
+use Rattle.frames.proofs.ScanFacts.{Seeking}
 use Rattle.frames.proofs.marks.page_in.Given as goal
 
 abbrev pub invariant-loop-i : goal.invariant-loop-i

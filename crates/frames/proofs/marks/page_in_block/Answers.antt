@@ -2,7 +2,6 @@
 use Prim.Native.Nat.{◌+◌}
 use native.Mathlib.Omega.{arith}
 use mathlib.Core.Path.{sym, ◌∙◌}
-use borrow.Author.Rules.{rules}
 use Rattle.search.proofs.Ranges.{some_no}
 use Rattle.frames.specs.Marks.{is_page_of}
 use Rattle.frames.specs.Scans.{marked, has_field}

@@ -1,10 +1,6 @@
 -- `frames::marks::page_one_by_one` meets its contract: the places before `i` and before what is found have no such page. Assumes nothing.
-use Prim.Native.Nat.{◌-◌}
 use native.Mathlib.Omega.{arith}
-use borrow.Author.Rules.{rules}
-use Rattle.frames.specs.Marks.{is_page_of}
-use Rattle.frames.specs.Scans.{marked}
-use Rattle.frames.proofs.ScanFacts.{Narrowing, narrow_start, narrow_turn, narrow_end}
+use Rattle.frames.proofs.ScanFacts.{narrow_start, narrow_turn, narrow_end}
 use Rattle.frames.proofs.marks.page_one_by_one.Goals as goal
 
 pub loop-i-init : goal.loop-i-init

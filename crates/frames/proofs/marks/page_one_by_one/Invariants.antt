@@ -1,10 +1,8 @@
 -- `frames::marks::page_one_by_one` meets its contract: the places before `i` and before what is found have no such page. Assumes nothing.
 use Prim.Native.Nat.{◌-◌}
-use native.Mathlib.Omega.{arith}
-use borrow.Author.Rules.{rules}
 use Rattle.frames.specs.Marks.{is_page_of}
 use Rattle.frames.specs.Scans.{marked}
-use Rattle.frames.proofs.ScanFacts.{Narrowing, narrow_start, narrow_turn, narrow_end}
+use Rattle.frames.proofs.ScanFacts.{Narrowing}
 use Rattle.frames.proofs.marks.page_one_by_one.Given as goal
 
 abbrev pub invariant-loop-i : goal.invariant-loop-i

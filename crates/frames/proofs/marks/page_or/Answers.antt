@@ -1,6 +1,5 @@
 -- `frames::marks::page_or` meets its contract: by the test of the mark. Assumes nothing.
 use mathlib.Core.Path.{sym, ◌∙◌}
-use borrow.Author.Rules.{rules}
 use Rattle.frames.proofs.marks.page_or.Goals as goal
 
 pub returns-then-is_page : goal.returns-then-is_page

@@ -2,7 +2,6 @@
 use Prim.Native.Nat.{◌+◌}
 use native.Mathlib.Omega.{arith}
 use mathlib.Core.Bool.{true}
-use borrow.Author.Rules.{rules}
 use Rattle.frames.specs.Scans.{marked, has_bits}
 use Rattle.frames.proofs.ScanFacts.{seek_start, part_hit}
 use Rattle.frames.proofs.marks.stuck_in.Goals as goal

@@ -2,7 +2,6 @@
 use Prim.Native.Nat.{◌-◌, max}
 use native.Mathlib.Omega.{arith}
 use mathlib.Core.Path.{◌≡◌, ap, ◌∙◌}
-use borrow.Author.Rules.{rules}
 use Rattle.search.proofs.Lowest.{Least, lowest_least}
 use Rattle.frames.specs.declared.Place.{Place}
 use Rattle.frames.specs.Marks.{has_kind, free}

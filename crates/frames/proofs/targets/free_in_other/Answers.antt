@@ -1,6 +1,5 @@
 -- `frames::targets::free_in_other` meets its contract. Assumes nothing.
 use mathlib.Core.Path.{refl, subst}
-use borrow.Author.Rules.{rules}
 use Rattle.frames.specs.declared.Area.{Area}
 use Rattle.frames.specs.Steps.Others.{FreeIn}
 use Rattle.frames.proofs.targets.free_in_other.Goals as goal

@@ -2,7 +2,6 @@
 use Prim.Native.Nat.{ℕ, ◌-◌, min, max}
 use native.Mathlib.Omega.{arith}
 use mathlib.Core.Path.{◌≡◌, ap, ◌∙◌}
-use borrow.Author.Rules.{rules}
 use lib.ListN.{length}
 use Rattle.search.specs.Search.{how_many}
 use Rattle.frames.specs.declared.Place.{Place}

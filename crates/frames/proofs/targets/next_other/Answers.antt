@@ -1,13 +1,11 @@
 -- `frames::targets::next_other` meets its contract: area after area, in their order, until one has a free place. Assumes nothing.
-use Prim.Native.Nat.{ℕ, ◌-◌, ◌≤◌, ◌<◌}
+use Prim.Native.Nat.{ℕ, ◌<◌}
 use native.Mathlib.Omega.{arith}
 use mathlib.Core.Path.{◌≡◌, subst}
 use mathlib.Core.Logic.{◌≢◌}
-use borrow.Author.Rules.{rules}
 use lib.ListN.{length, get_or}
 use Rattle.frames.specs.Areas.{area_in}
-use Rattle.frames.specs.Orders.{in_use, Ordered}
-use Rattle.frames.specs.Targets.{NoneFreeIn}
+use Rattle.frames.specs.Orders.{in_use}
 use Rattle.frames.specs.Steps.Others.{FreeIn, FreeInOther}
 use Rattle.frames.proofs.TargetFacts.{other_found, other_next, other_none, other_later}
 use Rattle.frames.proofs.targets.next_other.Goals as goal

@@ -1,6 +1,5 @@
 -- `frames::units::frame_at` meets its contract. Assumes nothing.
 use mathlib.Core.Path.{ap}
-use borrow.Author.Rules.{rules}
 use Rattle.frames.specs.Units.{frame}
 use Rattle.frames.proofs.units.frame_at.Goals as goal
 

@@ -1,15 +1,8 @@
 -- `frames::walk::next_stretch` meets its contract: area after area, in their order, until one begins after the place. Assumes nothing.
-use Prim.Native.Nat.{ℕ, ◌-◌, ◌≤◌, min, max}
-use native.Mathlib.Nat.{le_refl}
-use native.Mathlib.Omega.{arith}
-use mathlib.Core.Path.{◌≡◌, refl, ap, ◌∙◌}
-use lib.ListN.{get_or}
-use Rattle.frames.specs.declared.Area.{Area}
-use Rattle.frames.specs.declared.Place.{Place}
-use Rattle.frames.specs.Areas.{end_of, area_in}
+use Prim.Native.Nat.{ℕ, ◌-◌, ◌≤◌}
 use Rattle.frames.specs.Orders.{in_use, Ordered}
 use Rattle.frames.specs.Walk.{Behind}
-use Rattle.frames.proofs.Walks.{Underway, underway_start, underway_on, underway_stop, underway_end}
+use Rattle.frames.proofs.Walks.{Underway}
 use Rattle.frames.proofs.walk.next_stretch.Given as goal
 
 abbrev pub invariant-loop-next : goal.invariant-loop-next

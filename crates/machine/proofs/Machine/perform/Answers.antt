@@ -1,6 +1,5 @@
 -- `machine::Machine::perform` meets its contract: each arm is the call that its variant names, and does what that call's method does.
 -- Assumes nothing.
-use borrow.Author.Rules.{rules}
 use native.Mathlib.Omega.{arith}
 use mathlib.Core.Path.{refl, sym, ◌∙◌}
 use Rattle.rules.specs.Does.{record_with}

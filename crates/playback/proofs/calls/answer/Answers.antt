@@ -1,5 +1,4 @@
 -- `playback::calls::answer` meets its contract: by the lengths of the tables. Assumes nothing.
-use borrow.Author.Rules.{rules}
 use Prim.Native.Nat.{◌-◌}
 use native.Mathlib.Omega.{arith}
 use mathlib.Core.Path.{sym}

@@ -1,5 +1,4 @@
 -- `playback::calls::frames_for` meets its contract. Assumes nothing.
-use borrow.Author.Rules.{rules}
 use mathlib.Core.Path.{sym}
 use Rattle.playback.specs.Playback.{frames_for}
 use Rattle.playback.proofs.Lending.{not_boot}

@@ -1,5 +1,4 @@
 -- `playback::calls::wrong_shape` meets its contract. Assumes nothing.
-use borrow.Author.Rules.{rules}
 use Rattle.playback.proofs.calls.wrong_shape.Goals as goal
 
 pub returns : goal.returns

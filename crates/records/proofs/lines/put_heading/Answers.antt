@@ -1,5 +1,4 @@
 -- `records::lines::put_heading` meets its contract: the text is the heading, byte for byte. Assumes nothing.
-use borrow.Author.Rules.{rules}
 use Rattle.records.specs.Lines.{heading}
 use Rattle.records.proofs.lines.put_heading.Goals as goal
 

@@ -3,7 +3,6 @@ use Rattle.regions.proofs.Judging.{amount_refused, amount_given}
 use Rattle.text.specs.Reading.{scanned}
 use Rattle.regions.specs.Steps.Parts.{wrong_for}
 use mathlib.Core.Path.{sym, ap, ◌∙◌}
-use borrow.Author.Rules.{rules}
 use Rattle.regions.proofs.amounts.amount.Goals as goal
 
 pub returns-in-Refuses : goal.returns-in-Refuses

@@ -3,7 +3,6 @@ use mathlib.Core.Bool.{not}
 use Rattle.regions.specs.Steps.Parts.{wrong_for}
 use Rattle.regions.specs.declared.amounts.Purpose.{Purpose}
 use mathlib.Core.Path.{sym, ap, ◌∙◌}
-use borrow.Author.Rules.{rules}
 use Rattle.regions.proofs.amounts.is_wrong.Goals as goal
 
 pub returns-in-Size : goal.returns-in-Size

@@ -2,7 +2,6 @@
 use Rattle.regions.proofs.Judging.{judged_much, judged_fit}
 use Rattle.regions.specs.Steps.Parts.{wrong_for}
 use mathlib.Core.Path.{sym, ◌∙◌}
-use borrow.Author.Rules.{rules}
 use Rattle.regions.proofs.amounts.judged.Goals as goal
 
 pub returns-then-v-gt-MOST_BYTES : goal.returns-then-v-gt-MOST_BYTES

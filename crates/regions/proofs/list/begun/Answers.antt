@@ -1,7 +1,6 @@
 -- `regions::list::begun` meets its contract: the text's length is judged first. Assumes nothing.
 use lib.ListN.{length}
 use borrow.Author.Tests.{lt-ltb, le-ltb}
-use borrow.Author.Rules.{rules}
 use Rattle.regions.specs.Text.{most_text}
 use Rattle.regions.proofs.list.begun.Goals as goal
 

@@ -4,7 +4,6 @@ use Rattle.regions.specs.Text.{region}
 use Rattle.regions.specs.Steps.Parts.{region_read, separated_from, next_region}
 use Rattle.regions.specs.Steps.Progress.{held}
 use mathlib.Core.Path.{sym, ap, ◌∙◌}
-use borrow.Author.Rules.{rules}
 use Rattle.regions.proofs.list.next_region.Goals as goal
 
 pub returns-in-Refuses : goal.returns-in-Refuses

@@ -5,7 +5,6 @@ use Rattle.regions.specs.Steps.Parts.{region_read}
 use Rattle.regions.specs.Steps.Progress.{held, going_on, finished, after_region}
 use mathlib.Core.Path.{sym, ap, ◌∙◌}
 use native.Mathlib.Omega.{arith}
-use borrow.Author.Rules.{rules}
 use Rattle.regions.proofs.list.one_more.Goals as goal
 
 pub returns-then-at-text : goal.returns-then-at-text

@@ -1,5 +1,4 @@
 -- `regions::list::refused` meets its contract: every entry is the zero region. Assumes nothing.
-use borrow.Author.Rules.{rules}
 use Rattle.regions.proofs.list.refused.Goals as goal
 
 pub returns : goal.returns

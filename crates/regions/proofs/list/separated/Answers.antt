@@ -2,7 +2,6 @@
 use Rattle.regions.specs.Steps.Parts.{separated_from}
 use lib.ListN.{length}
 use borrow.Author.Tests.{eq-eqb, ne_eqb}
-use borrow.Author.Rules.{rules}
 use Rattle.regions.proofs.list.separated.Goals as goal
 
 pub returns-then-at-text : goal.returns-then-at-text

@@ -1,6 +1,5 @@
 -- `regions::list::with` meets its contract: the first zero entry becomes the region. Assumes nothing.
 use Rattle.regions.proofs.Listing.{added}
-use borrow.Author.Rules.{rules}
 use Rattle.regions.proofs.list.with.Goals as goal
 
 pub returns : goal.returns

@@ -1,6 +1,5 @@
 -- `regions::names::allocator` meets its contract: the tests of the definition, in its order. Assumes nothing.
 use borrow.Author.Tests.{eq-eqb, ne_eqb}
-use borrow.Author.Rules.{rules}
 use mathlib.Core.Bool.{not}
 use mathlib.Core.Path.{ap}
 use Rattle.regions.proofs.names.allocator.Goals as goal

@@ -1,6 +1,5 @@
 -- `regions::names::is_first_fit` meets its contract: the tests of the definition, in its order. Assumes nothing.
 use borrow.Author.Tests.{eq-eqb, ne_eqb}
-use borrow.Author.Rules.{rules}
 use Rattle.regions.proofs.names.is_first_fit.Goals as goal
 
 pub returns-then-n-ne2 : goal.returns-then-n-ne2

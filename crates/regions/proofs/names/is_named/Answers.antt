@@ -1,5 +1,4 @@
 -- `regions::names::is_named` meets its contract: the regions from i on are left to compare. Assumes nothing.
-use Rattle.regions.specs.Text.{is_named}
 use Rattle.regions.specs.Result.{no_region}
 use Rattle.regions.specs.Steps.Parts.{same_name}
 use Rattle.regions.specs.Steps.Progress.{held}
@@ -7,11 +6,10 @@ use Rattle.regions.specs.declared.Regions.{Regions}
 use lib.Seq.{get_or-take}
 use mathlib.Core.Bool.{true, false}
 use Rattle.regions.proofs.Naming.{named_next, named_none}
-use lib.ListN.{length, get_or, drop}
+use lib.ListN.{length, get_or}
 use mathlib.Core.Path.{◌≡◌, refl, sym, ap, ◌∙◌}
 use native.Mathlib.Omega.{arith}
-use Prim.Native.Nat.{ℕ, ◌-◌, ◌<◌}
-use borrow.Author.Rules.{rules}
+use Prim.Native.Nat.{ℕ, ◌<◌}
 use Rattle.regions.proofs.names.is_named.Goals as goal
 
 -- the entry of the list at i is the i-th of the regions that it holds

@@ -1,17 +1,9 @@
 -- `regions::names::is_named` meets its contract: the regions from i on are left to compare. Assumes nothing.
 use Rattle.regions.specs.Text.{is_named}
-use Rattle.regions.specs.Result.{no_region}
-use Rattle.regions.specs.Steps.Parts.{same_name}
 use Rattle.regions.specs.Steps.Progress.{held}
-use Rattle.regions.specs.declared.Regions.{Regions}
-use lib.Seq.{get_or-take}
-use mathlib.Core.Bool.{true, false}
-use Rattle.regions.proofs.Naming.{named_next, named_none}
-use lib.ListN.{length, get_or, drop}
-use mathlib.Core.Path.{◌≡◌, refl, sym, ap, ◌∙◌}
-use native.Mathlib.Omega.{arith}
-use Prim.Native.Nat.{ℕ, ◌-◌, ◌<◌}
-use borrow.Author.Rules.{rules}
+use lib.ListN.{drop}
+use mathlib.Core.Path.{◌≡◌}
+use Prim.Native.Nat.{◌-◌}
 use Rattle.regions.proofs.names.is_named.Given as goal
 
 abbrev pub invariant-loop-i : goal.invariant-loop-i

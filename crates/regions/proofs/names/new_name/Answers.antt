@@ -1,7 +1,6 @@
 -- `regions::names::new_name` meets its contract: the tests of the definition, in its order. Assumes nothing.
 use Rattle.regions.specs.Steps.Parts.{new_name}
 use borrow.Author.Tests.{eq-eqb, ne_eqb}
-use borrow.Author.Rules.{rules}
 use Rattle.regions.proofs.names.new_name.Goals as goal
 
 pub returns-then-n-eq0 : goal.returns-then-n-eq0

@@ -1,6 +1,5 @@
 -- `regions::names::same_name` meets its contract: the tests of the definition, in its order. Assumes nothing.
 use borrow.Author.Tests.{eq-eqb, ne_eqb}
-use borrow.Author.Rules.{rules}
 use Rattle.regions.proofs.names.same_name.Goals as goal
 
 pub returns-then-region-n : goal.returns-then-region-n

@@ -4,7 +4,6 @@ use Rattle.text.specs.Reading.{scanned, gives}
 use Rattle.regions.specs.Text.{optional, allocator}
 use Rattle.regions.specs.Steps.Parts.{allocated_from}
 use mathlib.Core.Path.{sym, ap, ◌∙◌}
-use borrow.Author.Rules.{rules}
 use Rattle.regions.proofs.parts.allocated.Goals as goal
 
 pub returns-in-Refuses : goal.returns-in-Refuses

@@ -1,6 +1,5 @@
 -- `regions::parts::optional_amount` meets its contract: the byte announces the part, or it is not given. Assumes nothing.
 use borrow.Author.Tests.{eq-eqb, ne_eqb}
-use borrow.Author.Rules.{rules}
 use Rattle.regions.proofs.parts.optional_amount.Goals as goal
 
 pub returns-then-byte_at-byte : goal.returns-then-byte_at-byte

@@ -6,7 +6,6 @@ use Rattle.regions.specs.Steps.Parts.{new_name, bare_region, sized_from}
 use Rattle.regions.specs.Steps.Progress.{held}
 use Rattle.regions.specs.declared.Region.{Region}
 use mathlib.Core.Path.{sym, ap, ◌∙◌}
-use borrow.Author.Rules.{rules}
 use Rattle.regions.proofs.parts.region_at.Goals as goal
 
 pub returns-in-Refuses : goal.returns-in-Refuses

@@ -1,5 +1,5 @@
 -- `rules::Counters::after_boot` meets its contract. Assumes nothing.
-use Rattle.std.proofs.Common.{rules, ne_eqb}
+use Rattle.std.proofs.Common.{ne_eqb}
 use Rattle.rules.proofs.Counters.after_boot.Goals as goal
 
 pub returns-then-number-eq-NONE : goal.returns-then-number-eq-NONE

@@ -1,5 +1,5 @@
 -- `rules::Counters::after_grant` meets its contract. Assumes nothing.
-use Rattle.std.proofs.Common.{rules, ne_eqb}
+use Rattle.std.proofs.Common.{ne_eqb}
 use Rattle.rules.specs.Counters.{after_grant}
 use Rattle.rules.proofs.Counters.after_grant.Goals as goal
 

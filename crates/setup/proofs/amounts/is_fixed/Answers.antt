@@ -1,6 +1,5 @@
 -- `setup::amounts::is_fixed` meets its contract: by the two tests. Assumes nothing.
 use mathlib.Core.Path.{refl}
-use borrow.Author.Rules.{rules}
 use Rattle.setup.proofs.amounts.is_fixed.Goals as goal
 
 pub returns-then-fixed : goal.returns-then-fixed

@@ -1,14 +1,10 @@
 -- `setup::place::first_used` meets its contract: what is left to search is the range from `i` on, and a mark past the end is
 -- free. Assumes nothing.
 use Rattle.setup.proofs.Taken.{used_past}
-use Rattle.frames.proofs.ScanFacts.{Seeking, seek_start, seek_turn, seek_skip, seek_hit, seek_end}
-use Rattle.frames.specs.Scans.{marked}
-use Rattle.frames.specs.Marks.{has_kind, free}
+use Rattle.frames.proofs.ScanFacts.{seek_start, seek_turn, seek_skip, seek_hit, seek_end}
 use borrow.Author.Tests.{eq-eqb, ne_eqb}
-use borrow.Author.Rules.{rules}
 use mathlib.Core.Bool.{not}
 use mathlib.Core.Path.{ap}
-use Prim.Native.Nat.{◌≤◌, ◌-◌}
 use native.Mathlib.Omega.{arith}
 use Rattle.setup.proofs.place.first_used.Goals as goal
 

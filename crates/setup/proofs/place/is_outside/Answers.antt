@@ -1,6 +1,5 @@
 -- `setup::place::is_outside` meets its contract: by the two tests. Assumes nothing.
 use borrow.Author.Tests.{lt-ltb, le-ltb}
-use borrow.Author.Rules.{rules}
 use mathlib.Core.Bool.{or-false}
 use Rattle.search.proofs.Bools.{or_true_right}
 use Rattle.setup.proofs.place.is_outside.Goals as goal

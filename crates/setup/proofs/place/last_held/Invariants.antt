@@ -1,8 +1,6 @@
 -- `setup::place::last_held` meets its contract: `held` is the last before `end` of the first k areas. Assumes nothing.
-use Rattle.setup.proofs.Taken.{held_start, held_end}
 use Rattle.setup.specs.Steps.Held.{LastHeld}
 use Prim.Native.Nat.{◌-◌, ◌≤◌}
-use native.Mathlib.Omega.{arith}
 use Rattle.setup.proofs.place.last_held.Given as goal
 
 abbrev pub invariant-loop-k : goal.invariant-loop-k

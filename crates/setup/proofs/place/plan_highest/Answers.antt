@@ -2,7 +2,6 @@
 -- that does, and of the frames below `high` those from the end of `held` on are in no area. Assumes nothing.
 use Rattle.setup.proofs.Plans.{amounts_fit, rounded_fits, Searching, search_start, ScannedIn, Tried, trying, tried_below, tried_inside, tried_made, tried_on, tried_falls, tried_all}
 use Rattle.setup.proofs.Taken.{held_lower}
-use Rattle.setup.specs.Steps.Held.{HeldBelow}
 use Rattle.setup.specs.Steps.Plan.{rounded_for, AmountsFit, plan_tables}
 use Rattle.rules.proofs.Divisions.{down_below}
 use Rattle.rules.proofs.Shapes.{memory_known}

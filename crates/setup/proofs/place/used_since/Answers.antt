@@ -1,8 +1,6 @@
 -- `setup::place::used_since` meets its contract: the places from i up to `at` are not free. Assumes nothing.
 use Rattle.setup.proofs.Taken.{since_start, since_next}
-use Rattle.setup.specs.Steps.Held.{UsedSince}
 use borrow.Author.Tests.{ne_eqb}
-use borrow.Author.Rules.{rules}
 use native.Mathlib.Omega.{arith}
 use Rattle.setup.proofs.place.used_since.Goals as goal
 

@@ -1,16 +1,13 @@
 -- `setup::plan::plan_rounded` meets its contract: each test is one of the definition's, on the rounded amounts. Assumes nothing.
 use Rattle.setup.proofs.Plans.{rounded_some, rounded_fits, is_fixed_lem, plan_small, plan_limited, plan_above, plan_within, plan_short, plan_roomy}
-use Rattle.setup.specs.declared.place.Plan.{Plan}
-use Rattle.setup.specs.Steps.Plan.{rounded_for, plan_tables, plan_after}
+use Rattle.setup.specs.Steps.Plan.{rounded_for, plan_tables}
 use Rattle.rules.specs.declared.Record.{Record}
 use Rattle.rules.specs.declared.Request.{Request}
 use Rattle.rules.specs.Does.{record_with}
 use Rattle.rules.proofs.Rounding.{asked}
 use Rattle.frames.specs.Tables.{Tables}
-use Prim.Native.Nat.{ℕ}
 use native.Mathlib.Omega.{arith}
 use mathlib.Core.Bool.{false}
-use mathlib.Core.List.{[]}
 use mathlib.Core.Path.{◌≡◌}
 use Rattle.setup.proofs.plan.plan_rounded.Goals as goal
 

@@ -1,7 +1,6 @@
 -- `setup::plan::with_area` meets its contract: one more is the number after it. Assumes nothing.
 use mathlib.Core.Path.{refl}
 use native.Mathlib.Numerals.{add-one}
-use borrow.Author.Rules.{rules}
 use Rattle.setup.proofs.plan.with_area.Goals as goal
 
 pub returns : goal.returns

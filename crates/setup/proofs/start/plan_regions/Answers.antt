@@ -1,13 +1,8 @@
 -- `setup::start::plan_regions` meets its contract: what is left to declare is the regions from `i` on. Assumes nothing.
-use Rattle.setup.proofs.Starts.{Planning, planning_start, memory_right_lem, planning_end, planning_stop, planning_few, planning_on}
-use borrow.Author.Rules.{rules}
-use mathlib.Core.Path.{refl, sym, ap, ◌∙◌}
-use lib.ListN.{length, take, length-replicate}
-use Prim.Native.Nat.{ℕ, ◌-◌}
+use Rattle.setup.proofs.Starts.{planning_start, memory_right_lem, planning_end, planning_stop, planning_few, planning_on}
+use mathlib.Core.Path.{refl}
+use lib.ListN.{length, take}
 use native.Mathlib.Omega.{arith}
-use Rattle.rules.specs.declared.Record.{Record}
-use Rattle.rules.specs.Does.{record_with}
-use Rattle.rules.specs.Limits.{most_area_numbers}
 use Rattle.setup.proofs.start.plan_regions.Goals as goal
 
 pub loop-i-init : goal.loop-i-init

@@ -1,13 +1,8 @@
 -- `setup::start::plan_regions` meets its contract: what is left to declare is the regions from `i` on. Assumes nothing.
-use Rattle.setup.proofs.Starts.{Planning, planning_start, memory_right_lem, planning_end, planning_stop, planning_few, planning_on}
-use borrow.Author.Rules.{rules}
-use mathlib.Core.Path.{refl, sym, ap, ◌∙◌}
-use lib.ListN.{length, take, length-replicate}
-use Prim.Native.Nat.{ℕ, ◌-◌}
-use native.Mathlib.Omega.{arith}
-use Rattle.rules.specs.declared.Record.{Record}
+use Rattle.setup.proofs.Starts.{Planning}
+use lib.ListN.{length, take}
+use Prim.Native.Nat.{◌-◌}
 use Rattle.rules.specs.Does.{record_with}
-use Rattle.rules.specs.Limits.{most_area_numbers}
 use Rattle.setup.proofs.start.plan_regions.Given as goal
 
 abbrev pub invariant-loop-i : goal.invariant-loop-i

@@ -1,6 +1,5 @@
 -- `setup::start::plan_text` meets its contract: the text's refusal, or its regions planned in turn. Assumes nothing.
 use Rattle.setup.proofs.Starts.{read_refused, read_given, read_whole}
-use borrow.Author.Rules.{rules}
 use lib.ListN.{length}
 use Rattle.setup.proofs.start.plan_text.Goals as goal
 

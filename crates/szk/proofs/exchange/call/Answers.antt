@@ -1,7 +1,5 @@
 -- `szk::exchange::call` meets its contract: it is stopped before the call, or gives the call's outcome back. Assumes nothing.
-use borrow.Author.Rules.{rules}
 use native.Mathlib.Omega.{arith}
-use mathlib.Core.Path.{◌∙◌}
 use Rattle.szk.proofs.LayoutFacts.{length_areas}
 use Rattle.szk.proofs.LentFacts.{room, stopped, stopped_buffer, performed, performed_buffer}
 use Rattle.szk.proofs.exchange.call.Goals as goal

@@ -4,7 +4,6 @@ use mathlib.Core.Path.{ap}
 use Rattle.answer.specs.declared.Answer.{Answer}
 use Rattle.szk.specs.Layout.{answer_numbers, over}
 use Rattle.szk.proofs.LentFacts.{no_room, short_record, long_enough}
-use borrow.Author.Rules.{rules}
 use Rattle.szk.proofs.exchange.refuse_short.Goals as goal
 
 pub returns-then-answer-lt-ANSWER : goal.returns-then-answer-lt-ANSWER

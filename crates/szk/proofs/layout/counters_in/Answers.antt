@@ -1,5 +1,4 @@
 -- `szk::layout::counters_in` meets its contract: each half of a number of 64 bits is a number of 32 bits. Assumes nothing.
-use borrow.Author.Rules.{rules}
 use native.Mathlib.Omega.{arith}
 use Rattle.szk.proofs.layout.counters_in.Goals as goal
 

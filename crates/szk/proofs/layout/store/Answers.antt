@@ -3,7 +3,6 @@ use native.Mathlib.Omega.{arith}
 use lib.ListN.{length-set}
 use Rattle.szk.specs.Layout.{own_numbers}
 use Rattle.szk.proofs.LayoutFacts.{sets_over}
-use borrow.Author.Rules.{rules}
 use Rattle.szk.proofs.layout.store.Goals as goal
 
 pub bounds-numbers-1 : goal.bounds-numbers-1

@@ -1,7 +1,6 @@
 -- `szk::layout::store_answer` meets its contract. Assumes nothing.
 use native.Mathlib.Omega.{arith}
 use lib.ListN.{length-set}
-use borrow.Author.Rules.{rules}
 use Rattle.szk.specs.Layout.{answer_numbers}
 use Rattle.szk.proofs.LayoutFacts.{sets_over}
 use Rattle.szk.proofs.layout.store_answer.Goals as goal

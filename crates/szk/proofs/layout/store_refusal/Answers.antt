@@ -2,7 +2,6 @@
 use native.Mathlib.Omega.{arith}
 use mathlib.Core.Path.{sym}
 use lib.Seq.{set_out}
-use borrow.Author.Rules.{rules}
 use Rattle.szk.proofs.layout.store_refusal.Goals as goal
 
 pub returns-then-numbers-eq0 : goal.returns-then-numbers-eq0

@@ -2,7 +2,6 @@
 use Rattle.text.proofs.Classes.{between_low}
 use Rattle.text.specs.Bytes.{digit_of}
 use native.Mathlib.Omega.{arith}
-use borrow.Author.Rules.{rules}
 use Rattle.text.proofs.bytes.digit_of.Goals as goal
 
 pub overflow_sub-result : goal.overflow_sub-result

@@ -1,7 +1,6 @@
 -- `text::bytes::is_name_byte` meets its contract: the tests of the definition, in its order. Assumes nothing.
 use borrow.Author.Tests.{eq-eqb, ne_eqb}
 use Rattle.text.specs.Bytes.{is_name_byte}
-use borrow.Author.Rules.{rules}
 use Rattle.text.proofs.bytes.is_name_byte.Goals as goal
 
 pub returns-then-is_between : goal.returns-then-is_between

@@ -3,12 +3,10 @@ use Rattle.text.proofs.Naming.{ends, name_inside}
 use Rattle.text.specs.Bytes.{is_name_byte, byte_at}
 use Rattle.text.specs.Names.{longest_name, name_length}
 use Rattle.search.proofs.Lowest.{lowest_here, lowest_next, lowest_end}
-use Rattle.search.specs.Search.{lowest_from}
 use mathlib.Core.Path.{◌≡◌, refl, sym, ap, ◌∙◌}
 use mathlib.Core.Bool.{not}
 use native.Mathlib.Omega.{arith}
-use Prim.Native.Nat.{◌+◌, ◌-◌, ◌≤◌}
-use borrow.Author.Rules.{rules}
+use Prim.Native.Nat.{◌+◌}
 use Rattle.text.proofs.names.name_length.Goals as goal
 
 pub loop-n-init : goal.loop-n-init

@@ -1,14 +1,9 @@
 -- `text::names::name_length` meets its contract: the search of the definition goes on from n. Assumes nothing.
-use Rattle.text.proofs.Naming.{ends, name_inside}
-use Rattle.text.specs.Bytes.{is_name_byte, byte_at}
+use Rattle.text.proofs.Naming.{ends}
 use Rattle.text.specs.Names.{longest_name, name_length}
-use Rattle.search.proofs.Lowest.{lowest_here, lowest_next, lowest_end}
 use Rattle.search.specs.Search.{lowest_from}
-use mathlib.Core.Path.{◌≡◌, refl, sym, ap, ◌∙◌}
-use mathlib.Core.Bool.{not}
-use native.Mathlib.Omega.{arith}
-use Prim.Native.Nat.{◌+◌, ◌-◌, ◌≤◌}
-use borrow.Author.Rules.{rules}
+use mathlib.Core.Path.{◌≡◌}
+use Prim.Native.Nat.{◌-◌, ◌≤◌}
 use Rattle.text.proofs.names.name_length.Given as goal
 
 abbrev pub invariant-loop-n : goal.invariant-loop-n

@@ -2,7 +2,6 @@
 use Rattle.text.proofs.Digits.{prefixed, octal}
 use Rattle.text.specs.Numbers.{capped}
 use mathlib.Core.Path.{sym, ap, ◌∙◌}
-use borrow.Author.Rules.{rules}
 use Rattle.text.proofs.numbers.after_zero.Goals as goal
 
 pub returns-then-byte_at-eq120 : goal.returns-then-byte_at-eq120

@@ -9,7 +9,6 @@ use lib.Dec.{eqb}
 use mathlib.Core.Path.{◌≡◌, sym, ◌∙◌}
 use native.Mathlib.Omega.{arith}
 use borrow.Author.Tests.{eq-eqb, ne_eqb}
-use borrow.Author.Rules.{rules}
 use Rattle.text.proofs.numbers.digits.Goals as goal
 
 pub scaled-v-requires : goal.scaled-v-requires

@@ -1,17 +1,12 @@
 -- `text::numbers::digits_end` meets its contract: the search of the definition goes on from i. Assumes nothing.
-use lib.Dec.{ltb}
-use Rattle.text.specs.Bytes.{byte_at, digit_of}
+use Rattle.text.specs.Bytes.{byte_at}
 use Rattle.text.specs.Numbers.{is_digit, digits_end}
-use Rattle.search.proofs.Lowest.{lowest_here, lowest_next, lowest_end}
 use Rattle.search.specs.Search.{lowest_from}
 use lib.ListN.{length}
-use mathlib.Core.Path.{◌≡◌, refl, sym, ap, ◌∙◌}
+use mathlib.Core.Path.{◌≡◌}
 use mathlib.Core.List.{List}
-use mathlib.Core.Bool.{Bool, true, false, not}
-use native.Mathlib.Omega.{arith}
+use mathlib.Core.Bool.{Bool, not}
 use Prim.Native.Nat.{ℕ, ◌-◌}
-use borrow.Author.Tests.{le-ltb, lt-ltb}
-use borrow.Author.Rules.{rules}
 use Rattle.text.proofs.numbers.digits_end.Given as goal
 
 -- no digit of the base stands there

@@ -3,12 +3,11 @@
 use Rattle.text.proofs.Classes.{digit_most}
 use Rattle.text.proofs.Capping.{cap_most, value_next, value_end}
 use Rattle.text.specs.Bytes.{byte_at, digit_of}
-use Rattle.text.specs.Numbers.{cap, digits_value, most_bytes}
+use Rattle.text.specs.Numbers.{cap}
 use mathlib.Core.Path.{◌≡◌, refl, sym, ◌∙◌}
 use native.Mathlib.Omega.{arith}
 use native.Mathlib.Nat.{mul-le-mul}
-use Prim.Native.Nat.{◌+◌, ◌*◌, ◌-◌, ◌≤◌}
-use borrow.Author.Rules.{rules}
+use Prim.Native.Nat.{◌+◌, ◌*◌}
 use Rattle.text.proofs.numbers.digits_value.Goals as goal
 
 pub loop-i-init : goal.loop-i-init

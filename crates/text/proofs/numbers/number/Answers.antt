@@ -2,7 +2,6 @@
 use Rattle.text.proofs.Digits.{zero_led, decimal}
 use Rattle.text.specs.Numbers.{capped}
 use mathlib.Core.Path.{sym, ap, ◌∙◌}
-use borrow.Author.Rules.{rules}
 use Rattle.text.proofs.numbers.number.Goals as goal
 
 pub returns-then-byte_at-eq48 : goal.returns-then-byte_at-eq48

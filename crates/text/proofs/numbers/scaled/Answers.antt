@@ -3,7 +3,6 @@ use Rattle.text.proofs.Capping.{cap_high, cap_low, scaled_high, scaled_low}
 use mathlib.Core.Path.{sym}
 use native.Mathlib.Omega.{arith}
 use Prim.Native.Nat.{◌*◌}
-use borrow.Author.Rules.{rules}
 use Rattle.text.proofs.numbers.scaled.Goals as goal
 
 pub returns-then-unit-v : goal.returns-then-unit-v

@@ -4,7 +4,6 @@ use Rattle.text.specs.Bytes.{byte_at, digit_of}
 use Rattle.text.specs.Numbers.{capped}
 use mathlib.Core.Path.{◌≡◌, sym, ap, ◌∙◌}
 use native.Mathlib.Omega.{arith}
-use borrow.Author.Rules.{rules}
 use Rattle.text.proofs.numbers.some_digits.Goals as goal
 
 pub returns-then-base-digit_of : goal.returns-then-base-digit_of

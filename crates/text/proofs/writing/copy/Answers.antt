@@ -1,9 +1,9 @@
 -- `text::writing::copy` meets its contract: the bytes passed stand in the buffer. Assumes nothing.
-use Prim.Native.Nat.{ℕ, ◌+◌, ◌-◌, ◌≤◌}
+use Prim.Native.Nat.{ℕ, ◌+◌}
 use native.Mathlib.Omega.{arith}
-use mathlib.Core.Path.{◌≡◌, refl, ap, ◌∙◌}
+use mathlib.Core.Path.{refl, ap, ◌∙◌}
 use mathlib.Core.List.{List}
-use lib.ListN.{length, get_or, take, set, length-set}
+use lib.ListN.{get_or, set, length-set}
 use lib.Seq.{sets, take_all}
 use Rattle.text.proofs.Buffer.{copy_turn}
 use Rattle.text.proofs.writing.copy.Goals as goal

@@ -1,8 +1,5 @@
 -- `text::writing::digit_count` meets its contract: each division takes digits away, and the tests count those that are left. Assumes nothing.
-use Prim.Native.Nat.{ℕ, ◌+◌, ◌/◌, ◌^◌, ◌≤◌}
-use native.Mathlib.Omega.{arith}
-use Rattle.text.specs.Writing.{DigitsCounted}
-use Rattle.text.proofs.Decimal.{Counting, count_start, count_turns, count_end}
+use Rattle.text.proofs.Decimal.{Counting}
 use Rattle.text.proofs.writing.digit_count.Given as goal
 
 abbrev pub invariant-loop-rest : goal.invariant-loop-rest

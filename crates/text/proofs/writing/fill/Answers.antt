@@ -1,7 +1,6 @@
 -- `text::writing::fill` meets its contract: the digits stand in the buffer from the last one back. Assumes nothing.
-use Prim.Native.Nat.{◌≤◌}
 use native.Mathlib.Omega.{arith}
-use Rattle.text.proofs.Filling.{Filled, fill_start, fill_turn, fill_end}
+use Rattle.text.proofs.Filling.{fill_start, fill_turn, fill_end}
 use Rattle.text.proofs.writing.fill.Goals as goal
 
 pub loop-i-init : goal.loop-i-init

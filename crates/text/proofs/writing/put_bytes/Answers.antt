@@ -1,5 +1,4 @@
 -- `text::writing::put_bytes` meets its contract: the text is stored where it has room. Assumes nothing.
-use borrow.Author.Rules.{rules}
 use Prim.Native.Nat.{◌+◌, ◌≤◌}
 use native.Mathlib.Omega.{arith}
 use mathlib.Core.Path.{refl}

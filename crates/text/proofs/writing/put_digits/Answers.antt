@@ -1,5 +1,4 @@
 -- `text::writing::put_digits` meets its contract: where they have room, the digits are stored and then the byte. Assumes nothing.
-use borrow.Author.Rules.{rules}
 use Prim.Native.Nat.{ℕ, ◌+◌}
 use native.Mathlib.Omega.{arith}
 use mathlib.Core.Path.{◌≡◌, ap, sym, ◌∙◌}

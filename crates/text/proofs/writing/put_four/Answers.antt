@@ -1,5 +1,4 @@
 -- `text::writing::put_four` meets its contract: the four ended numbers are appended one after the other. Assumes nothing.
-use borrow.Author.Rules.{rules}
 use Prim.Native.Nat.{ℕ, ◌+◌, ◌≤◌}
 use native.Mathlib.Omega.{arith}
 use mathlib.Core.List.{◌++◌}

@@ -1,5 +1,4 @@
 -- `text::writing::put_labelled` meets its contract: the label and the ended number are appended one after the other. Assumes nothing.
-use borrow.Author.Rules.{rules}
 use Prim.Native.Nat.{ℕ, ◌+◌, ◌≤◌}
 use native.Mathlib.Omega.{arith}
 use lib.ListN.{length}

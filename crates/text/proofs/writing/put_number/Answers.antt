@@ -1,5 +1,4 @@
 -- `text::writing::put_number` meets its contract: the digits are stored where they have room. Assumes nothing.
-use borrow.Author.Rules.{rules}
 use Prim.Native.Nat.{◌+◌, ◌≤◌}
 use native.Mathlib.Omega.{arith}
 use mathlib.Core.Path.{ap, ◌∙◌}

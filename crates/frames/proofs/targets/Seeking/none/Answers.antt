@@ -1,7 +1,5 @@
 -- `frames::targets::Seeking::none` meets its contract. Assumes nothing.
 use mathlib.Core.Path.{ap}
-use borrow.Author.Rules.{rules}
-use Rattle.frames.specs.declared.targets.Seeking.{Seeking}
 use Rattle.frames.specs.declared.walk.Stretch.{Stretch}
 use Rattle.frames.specs.Units.{place}
 use Rattle.frames.proofs.targets.Seeking.none.Goals as goal

@@ -1,0 +1,11 @@
+-- What the records of the block leave keeps to the bounds, with a turn less.
+use Rattle.std.proofs.Common.{rules, arith}
+use Rattle.playback.proofs.Ran.{ran}
+use Rattle.replay.proofs.turn.Goals as goal
+
+pub after-requires : goal.after-requires
+after-requires g c =
+    let given = c.requires in
+    let went = ran _ _ c.answer_records-stopped.ensures (search rules) (omega arith) in
+    let kept = c.answer_records-stopped.auto in
+    (record { inside = omega arith; most = omega arith; steps = omega arith; budget = omega arith }, omega arith, omega arith)
