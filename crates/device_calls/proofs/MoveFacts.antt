@@ -17,7 +17,7 @@ use lib.Dec.{ltb, eqb}
 use lib.ListN.{length, get_or, set, length-set}
 use lib.Seq.{get_or-set_same, get_or-set_other}
 use borrow.Author.Tests.{eqb-true, eqb-false, ne_eqb, ltb-false}
-use Rattle.search.specs.Choice.{if◌then◌else◌}
+use Rattle.std.specs.Prelude.{if◌then◌else◌}
 use Rattle.search.specs.Search.{lowest, lowest_from}
 use Rattle.search.proofs.Bools.{by_cases, clash, and_both, and_left_false, and_right_false, not_flips}
 use Rattle.search.proofs.Lowest.{lowest_least, found_low, found_cong}

@@ -10,7 +10,7 @@ use native.Mathlib.Nat.{le_refl}
 use native.Mathlib.Omega.{arith}
 use mathlib.Core.Path.{◌≡◌, refl, sym, ap, subst, ◌∙◌}
 use mathlib.Core.Bool.{Bool, true, false, ◌||◌}
-use Rattle.search.specs.Choice.{if◌then◌else◌}
+use Rattle.std.specs.Prelude.{if◌then◌else◌}
 use Rattle.search.specs.Search.{lowest_from, some, every, how_many}
 use Rattle.search.proofs.Bools.{by_cases, below_or_not}
 use Rattle.search.proofs.Lowest.{Least, lowest_least, lowest_is, lowest_here, lowest_skip, lowest_next, lowest_end}

@@ -14,7 +14,7 @@ use mathlib.Core.List.{List}
 use lib.Dec.{leb, ltb, eqb}
 use lib.ListN.{length, get_or}
 use borrow.Author.Tests.{le-leb, lt-leb, lt-ltb, le-ltb, eqb-true, eqb-false, eq-eqb, ne_eqb}
-use Rattle.search.specs.Choice.{if◌then◌else◌}
+use Rattle.std.specs.Prelude.{if◌then◌else◌}
 use Rattle.search.specs.Search.{lowest, lowest_from, how_many}
 use Rattle.search.proofs.Bools.{by_cases, below_or_not, clash, and_both, and_left_false, and_right_false}
 use Rattle.search.proofs.Lowest.{lowest_least, lowest_is, lowest_start, lowest_skip}

@@ -1,7 +1,6 @@
 -- The tests that a scan of the marks makes at each place.
-use Rattle.std.specs.Prelude.{ℕ, ◌+◌, Bool, not, ◌&&◌, List, eqb, get_or}
+use Rattle.std.specs.Prelude.{ℕ, ◌+◌, Bool, not, ◌&&◌, List, eqb, get_or, if◌then◌else◌}
 use Rattle.std.specs.Int.Bits.{bit_and}
-use Rattle.search.specs.Choice.{if◌then◌else◌}
 use Rattle.frames.specs.declared.Frame.{Frame}
 use Rattle.frames.specs.Units.{frame}
 use Rattle.frames.specs.Marks.{field_of, has_kind, free}

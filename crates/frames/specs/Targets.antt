@@ -1,7 +1,6 @@
 -- Where the movable pages of a run of one area, `held`, can go, in a table that begins at physical frame `base`: first the free ordinary places,
 -- ascending, then the free places of the other areas, ascending.
-use Rattle.std.specs.Prelude.{ℕ, ◌+◌, ◌≤◌, ◌<◌, Bool, true, false, not, ◌&&◌, List, ◌≢◌, ◌≡◌, ltb, eqb, length, get_or}
-use Rattle.search.specs.Choice.{if◌then◌else◌}
+use Rattle.std.specs.Prelude.{ℕ, ◌+◌, ◌≤◌, ◌<◌, Bool, true, false, not, ◌&&◌, List, ◌≢◌, ◌≡◌, ltb, eqb, length, get_or, if◌then◌else◌}
 use Rattle.search.specs.Search.{lowest, some}
 use Rattle.frames.specs.declared.Area.{Area}
 use Rattle.frames.specs.declared.Frame.{Frame}

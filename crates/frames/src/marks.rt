@@ -1,8 +1,7 @@
 // Scans of the marks. A long scan goes by blocks of 32: whether a block can hold what is sought is asked of all 32 with no exit between
 // them, which the compiler turns into vector instructions, and only a block that can is looked through place by place. `stuck_in` looks at
 // the first few places so before. A count has no exit at all, and its one loop becomes vector instructions as it stands.
-ghost use Rattle.std.specs.Prelude.{◌≤◌, ◌<◌, ◌+◌, ◌-◌, min, ◌≡◌, true, not, ◌⊎◌, length};
-ghost use Rattle.search.specs.Choice.{if◌then◌else◌};
+ghost use Rattle.std.specs.Prelude.{◌≤◌, ◌<◌, ◌+◌, ◌-◌, min, ◌≡◌, true, not, ◌⊎◌, length, if◌then◌else◌};
 ghost use Rattle.search.specs.Search.{lowest, lowest_from, some, every, how_many};
 ghost use Rattle.frames.specs.Units.{place};
 ghost use Rattle.frames.specs.Marks.{has_kind, is_page_of, can_leave, is_granted, free, movable, later};

@@ -1,7 +1,6 @@
 -- How the contracts of the record's methods name what a call does: the record given and handed back, with its counters, and all tables at entry and at
 -- exit.
-use Rattle.std.specs.Prelude.{ℕ, ◌&&◌, not, List, ◌≡◌}
-use Rattle.search.specs.Choice.{if◌then◌else◌}
+use Rattle.std.specs.Prelude.{ℕ, ◌&&◌, not, List, ◌≡◌, if◌then◌else◌}
 use Rattle.frames.specs.Tables.{Tables}
 use Rattle.frames.specs.Lent.{MutSlice, slice_of}
 use Rattle.rules.specs.declared.Call.{Call}

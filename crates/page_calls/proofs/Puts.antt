@@ -9,7 +9,7 @@ use lib.Dec.{eqb}
 use mathlib.Core.List.{List}
 use lib.ListN.{length, set}
 use borrow.Author.Tests.{lt-ltb, le-ltb, eq-eqb, ne_eqb}
-use Rattle.search.specs.Choice.{if◌then◌else◌}
+use Rattle.std.specs.Prelude.{if◌then◌else◌}
 use Rattle.search.specs.Search.{lowest}
 use Rattle.search.proofs.Bools.{by_cases, or_neither, or_left_true, or_right_true}
 use Rattle.search.proofs.Lowest.{found_cong, found_low}

@@ -1,6 +1,5 @@
 -- Document 01, "Replay records": the call of a record, what it is lent, and the lines of record after record.
-use Rattle.std.specs.Prelude.{ℕ, zero, suc, ◌+◌, Bool, not, ◌&&◌, ◌||◌, List, [], ◌++◌, length, take, drop, ltb, leb}
-use Rattle.search.specs.Choice.{if◌then◌else◌}
+use Rattle.std.specs.Prelude.{ℕ, zero, suc, ◌+◌, Bool, not, ◌&&◌, ◌||◌, List, [], ◌++◌, length, take, drop, ltb, leb, if◌then◌else◌}
 use Rattle.answer.specs.declared.Answer.{Answer}
 use Rattle.frames.specs.Units.{most_number}
 use Rattle.frames.specs.Tables.{Tables, tables}

@@ -1,7 +1,6 @@
 -- Document 01, "Replay records": the whole output of a replay, as one function of its input. It is what the program's blocks, put together,
 -- must give, whatever the sizes of its buffers.
-use Rattle.std.specs.Prelude.{ℕ, zero, suc, ◌+◌, ◌≡◌, ◌≢◌, List, [], ◌++◌, length, take, replicate, leb}
-use Rattle.search.specs.Choice.{if◌then◌else◌}
+use Rattle.std.specs.Prelude.{ℕ, zero, suc, ◌+◌, ◌≡◌, ◌≢◌, List, [], ◌++◌, length, take, replicate, leb, if◌then◌else◌}
 use Rattle.frames.specs.Tables.{Tables, tables}
 use Rattle.rules.specs.declared.Record.{Record}
 use Rattle.rules.specs.Record.{fresh_record}

@@ -1,7 +1,6 @@
 -- Document 01, "Replay records": one byte of kind, then a body whose length the kind fixes, little endian. A record stands for a call; a
 -- boot's text is empty.
-use Rattle.std.specs.Prelude.{ℕ, zero, suc, ◌+◌, ◌-◌, ◌*◌, not, List, [], ◌∷◌, length, get_or, ltb, leb, eqb}
-use Rattle.search.specs.Choice.{if◌then◌else◌}
+use Rattle.std.specs.Prelude.{ℕ, zero, suc, ◌+◌, ◌-◌, ◌*◌, not, List, [], ◌∷◌, length, get_or, ltb, leb, eqb, if◌then◌else◌}
 use Rattle.frames.specs.Units.{frame}
 use Rattle.rules.specs.declared.Call.{Call}
 use Rattle.records.specs.declared.Decoded.{Decoded}

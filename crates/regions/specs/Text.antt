@@ -1,6 +1,5 @@
 -- Document 01, "Regions text": the grammar, with its refusals 20 to 25 and their places.
-use Rattle.std.specs.Prelude.{ℕ, zero, suc, ◌+◌, Bool, false, not, ◌&&◌, ◌||◌, List, [], ◌∷◌, ◌++◌, ltb, eqb, length}
-use Rattle.search.specs.Choice.{if◌then◌else◌}
+use Rattle.std.specs.Prelude.{ℕ, zero, suc, ◌+◌, Bool, false, not, ◌&&◌, ◌||◌, List, [], ◌∷◌, ◌++◌, ltb, eqb, length, if◌then◌else◌}
 use Rattle.text.specs.Bytes.{byte_at}
 use Rattle.text.specs.Names.{name, same_bytes}
 use Rattle.text.specs.Reading.{Read, gives, ◌then◌, refuse_if}

@@ -4,7 +4,7 @@
 use Rattle.std.proofs.Common.{◌≡◌, ℕ, ◌+◌, ◌*◌, ◌/◌, ◌<◌, ◌≤◌, max, Bool, true, false, not, ◌&&◌, ltb, leb, length, sym, refl, ap, ◌∙◌, subst, mul-le-mul_right, arith, ltb-false, leb-false, leb-true}
 use native.Mathlib.Nat.{le-max_right}
 use borrow.Author.Tests.{not-false}
-use Rattle.search.specs.Choice.{if◌then◌else◌}
+use Rattle.std.specs.Prelude.{if◌then◌else◌}
 use Rattle.search.proofs.Bools.{by_cases, and_left, and_right, or_left, or_right}
 use Rattle.search.proofs.Highest.{highest_greatest}
 use Rattle.search.proofs.Ranges.{every_all}

@@ -9,7 +9,7 @@
 --     first_same                                   the first goes by the marks alone
 use Rattle.std.proofs.Common.{◌≡◌, ℕ, suc, ◌+◌, ◌<◌, ◌≤◌, Bool, true, false, not, ◌&&◌, eqb, ◌≢◌, List, [], sym, refl, ap, ◌∙◌, subst, arith, le-ltb, lt-ltb, eq-eqb, eqb-true}
 use borrow.Author.Tests.{eqb-false}
-use Rattle.search.specs.Choice.{if◌then◌else◌}
+use Rattle.std.specs.Prelude.{if◌then◌else◌}
 use Rattle.search.specs.Search.{lowest, how_many}
 use Rattle.search.proofs.Bools.{by_cases, below_or_not, clash, and_left, and_right, and_both, and_left_false, and_right_false, not_flips}
 use Rattle.search.proofs.Lowest.{found_passes, found_low}

@@ -1,6 +1,5 @@
 -- Document 01, "Boot and area declaration": boot (P, n, b, text).
-use Rattle.std.specs.Prelude.{ℕ, suc, not, ◌&&◌, List, [], ◌∷◌, length, replicate, ◌==◌}
-use Rattle.search.specs.Choice.{if◌then◌else◌}
+use Rattle.std.specs.Prelude.{ℕ, suc, not, ◌&&◌, List, [], ◌∷◌, length, replicate, ◌==◌, if◌then◌else◌}
 use Rattle.answer.specs.Answers.{done, refused_at}
 use Rattle.frames.specs.Tables.{Tables, tables}
 use Rattle.regions.specs.declared.Region.{Region}

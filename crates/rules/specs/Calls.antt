@@ -1,7 +1,6 @@
 -- What every call does: the contracts' own definitions under one name. Bytes are lent beside the call: a boot's text, a report's buffer. No other
 -- call looks at them.
-use Rattle.std.specs.Prelude.{ℕ, List}
-use Rattle.search.specs.Choice.{if◌then◌else◌}
+use Rattle.std.specs.Prelude.{ℕ, List, if◌then◌else◌}
 use Rattle.frames.specs.Tables.{Tables}
 use Rattle.rules.specs.declared.Call.{Call}
 use Rattle.rules.specs.declared.Record.{Record}

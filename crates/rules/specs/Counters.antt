@@ -1,7 +1,6 @@
 -- Document 02, request (iv): the record's counters of granted and of refused grant calls, "which wrap on purpose after 4,294,967,295", and the
 -- difference between two readings. They stand beside the rest of the record: no rule looks at them, so they have no part in the shape.
-use Rattle.std.specs.Prelude.{ℕ, ◌+◌, ◌-◌, ◌%◌, ◌^◌, ◌==◌}
-use Rattle.search.specs.Choice.{if◌then◌else◌}
+use Rattle.std.specs.Prelude.{ℕ, ◌+◌, ◌-◌, ◌%◌, ◌^◌, ◌==◌, if◌then◌else◌}
 use Rattle.rules.specs.declared.Call.{Call}
 use Rattle.rules.specs.declared.Counters.{Counters}
 use Rattle.rules.specs.Ledger.Roles.{role_of}

@@ -1,6 +1,5 @@
 -- Document 01, "Boot and area declaration": declare (base, size, limit, alignment, k, fixed). Amounts are bytes.
-use Rattle.std.specs.Prelude.{ℕ, suc, ◌+◌, ◌-◌, ◌*◌, ◌/◌, ◌^◌, max, Bool, not, ◌&&◌, ◌||◌, ltb, leb, List, [], ◌∷◌, length, ◌==◌, nat_le, nat_lt}
-use Rattle.search.specs.Choice.{if◌then◌else◌}
+use Rattle.std.specs.Prelude.{ℕ, suc, ◌+◌, ◌-◌, ◌*◌, ◌/◌, ◌^◌, max, Bool, not, ◌&&◌, ◌||◌, ltb, leb, List, [], ◌∷◌, length, ◌==◌, nat_le, nat_lt, if◌then◌else◌}
 use Rattle.search.specs.Search.{every, highest_from}
 use Rattle.answer.specs.Answers.{done}
 use Rattle.frames.specs.declared.Area.{Area}

@@ -1,6 +1,5 @@
 -- Document 01, "Device calls", with the devices of document 02, request (vii). Where the pages of a run go, request (vi), is in Targets.antt.
-use Rattle.std.specs.Prelude.{ℕ, zero, suc, ◌+◌, ◌-◌, ◌^◌, Bool, not, ◌&&◌, ◌||◌, ltb, leb, List, [], ◌∷◌, ◌==◌, nat_le, nat_lt}
-use Rattle.search.specs.Choice.{if◌then◌else◌}
+use Rattle.std.specs.Prelude.{ℕ, zero, suc, ◌+◌, ◌-◌, ◌^◌, Bool, not, ◌&&◌, ◌||◌, ltb, leb, List, [], ◌∷◌, ◌==◌, nat_le, nat_lt, if◌then◌else◌}
 use Rattle.search.specs.Search.{lowest, every, how_many}
 use Rattle.answer.specs.Answers.{done}
 use Rattle.bitmap.specs.Bits.{is_clear, set_bits, clear_bits}

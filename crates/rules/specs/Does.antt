@@ -1,7 +1,6 @@
 -- How the contracts of the calls' code name what a call does. A function is lent a record's areas beside its memory, and the tables as slices:
 -- these terms and those of frames/specs/Lent are where the record and all tables stand together.
-use Rattle.std.specs.Prelude.{◌≡◌, ℕ, Bool, List, length, ◌==◌}
-use Rattle.search.specs.Choice.{if◌then◌else◌}
+use Rattle.std.specs.Prelude.{◌≡◌, ℕ, Bool, List, length, ◌==◌, if◌then◌else◌}
 use Rattle.answer.specs.declared.Answer.{Answer}
 use Rattle.frames.specs.Tables.{Tables}
 use Rattle.frames.specs.Lent.{Slice, entering, leaving}

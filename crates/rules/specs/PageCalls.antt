@@ -1,6 +1,5 @@
 -- Document 01, "Page calls".
-use Rattle.std.specs.Prelude.{ℕ, Bool, not, ◌&&◌, ◌||◌, List, [], ◌∷◌, ◌==◌, nat_lt}
-use Rattle.search.specs.Choice.{if◌then◌else◌}
+use Rattle.std.specs.Prelude.{ℕ, Bool, not, ◌&&◌, ◌||◌, List, [], ◌∷◌, ◌==◌, nat_lt, if◌then◌else◌}
 use Rattle.search.specs.Search.{lowest}
 use Rattle.answer.specs.Answers.{done}
 use Rattle.frames.specs.declared.Place.{Place}

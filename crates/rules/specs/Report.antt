@@ -1,6 +1,5 @@
 -- Document 02, request (iv): the report, in the lines of source document 000. Labels are bytes, numbers decimal.
-use Rattle.std.specs.Prelude.{ℕ, zero, suc, ◌+◌, ◌-◌, ◌*◌, List, [], ◌∷◌, ◌++◌, length, drop, ◌==◌, nat_lt}
-use Rattle.search.specs.Choice.{if◌then◌else◌}
+use Rattle.std.specs.Prelude.{ℕ, zero, suc, ◌+◌, ◌-◌, ◌*◌, List, [], ◌∷◌, ◌++◌, length, drop, ◌==◌, nat_lt, if◌then◌else◌}
 use Rattle.search.specs.Search.{how_many, longest}
 use Rattle.answer.specs.Answers.{done}
 use Rattle.bitmap.specs.Bits.{is_clear}

@@ -1,7 +1,6 @@
 -- Document 02, request (vi): the frames that the movable pages of a run of area i can go to, and which of them comes first. What a grant does to the
 -- tables goes by these two alone.
-use Rattle.std.specs.Prelude.{ℕ, Bool, not, ◌&&◌}
-use Rattle.search.specs.Choice.{if◌then◌else◌}
+use Rattle.std.specs.Prelude.{ℕ, Bool, not, ◌&&◌, if◌then◌else◌}
 use Rattle.search.specs.Search.{how_many}
 use Rattle.frames.specs.declared.Place.{Place}
 use Rattle.frames.specs.Units.{place}

@@ -1,7 +1,6 @@
 -- The searches of document 01: "the lowest such that", "the highest such that", "each", "some", "how many" and "the longest row", over any test.
 -- A range is its first number i and its width d: the numbers i, i + 1, .., i + d - 1.
-use Rattle.std.specs.Prelude.{ℕ, zero, suc, ◌+◌, ◌-◌, ◌≤◌, ◌<◌, max, ◌≡◌, Bool, true, false, not, ltb}
-use Rattle.search.specs.Choice.{if◌then◌else◌}
+use Rattle.std.specs.Prelude.{ℕ, zero, suc, ◌+◌, ◌-◌, ◌≤◌, ◌<◌, max, ◌≡◌, Bool, true, false, not, ltb, if◌then◌else◌}
 
 -- the lowest number of the range that passes; the range's end, i + d, where none does
 unfoldable pub lowest_from : (ℕ → Bool) → ℕ → ℕ → ℕ

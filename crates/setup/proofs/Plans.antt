@@ -16,7 +16,7 @@ use mathlib.Core.Path.{◌≡◌, refl, sym, ap, ap₂, subst, ◌∙◌}
 use lib.Dec.{leb, ltb, eqb}
 use lib.ListN.{length}
 use borrow.Author.Tests.{lt-ltb, le-ltb, le-leb, lt-leb, ltb-false}
-use Rattle.search.specs.Choice.{if◌then◌else◌}
+use Rattle.std.specs.Prelude.{if◌then◌else◌}
 use Rattle.search.specs.Search.{highest_from}
 use Rattle.search.proofs.Bools.{below_or_not, and_both, and_left_false, and_right_false, or_left, or_right}
 use Rattle.search.proofs.Ranges.{every_cong}

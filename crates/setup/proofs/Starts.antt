@@ -17,7 +17,7 @@ use lib.Dec.{eqb}
 use lib.ListN.{length, get_or, set, take, drop, replicate, length-replicate, get_or-replicate, drop_of_length-le, get_or-eq_default}
 use lib.Seq.{ext_get_or, drop-cons, get_or-take}
 use borrow.Author.Tests.{eq-eqb, eqb-true, ne_eqb, not-true, not-false}
-use Rattle.search.specs.Choice.{if◌then◌else◌}
+use Rattle.std.specs.Prelude.{if◌then◌else◌}
 use Rattle.search.proofs.Bools.{by_cases, below_or_not, and_both, and_left, and_right}
 use Rattle.answer.specs.declared.Answer.{Answer}
 use Rattle.answer.specs.Answers.{done, refused_at}

@@ -1,6 +1,5 @@
 // The amounts of a request, in bytes: which are allowed, and how they are rounded.
-ghost use Rattle.std.specs.Prelude.{◌≡◌, true, false, not, ◌&&◌, ◌||◌, eqb, ltb, ◌+◌, ◌*◌, ◌≤◌, ◌<◌, ◌^◌, max};
-ghost use Rattle.search.specs.Choice.{if◌then◌else◌};
+ghost use Rattle.std.specs.Prelude.{◌≡◌, true, false, not, ◌&&◌, ◌||◌, eqb, ltb, ◌+◌, ◌*◌, ◌≤◌, ◌<◌, ◌^◌, max, if◌then◌else◌};
 ghost use Rattle.text.specs.Numbers.{most_bytes};
 ghost use Rattle.rules.specs.Limits.{most_end, most_block_order, page_bytes};
 ghost use Rattle.rules.specs.Shape.{memory_right};

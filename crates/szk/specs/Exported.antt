@@ -1,6 +1,5 @@
 -- What an exported call makes of the six lists that it is lent, and a report of its buffer.
-use Rattle.std.specs.Prelude.{ℕ, ◌≡◌, Bool, ◌&&◌, ◌||◌, List, ltb, length, set}
-use Rattle.search.specs.Choice.{if◌then◌else◌}
+use Rattle.std.specs.Prelude.{ℕ, ◌≡◌, Bool, ◌&&◌, ◌||◌, List, ltb, length, set, if◌then◌else◌}
 use Rattle.answer.specs.declared.Answer.{Answer}
 use Rattle.answer.specs.Answers.{refused}
 use Rattle.frames.specs.Tables.{Tables}

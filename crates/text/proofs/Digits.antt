@@ -8,7 +8,7 @@ use mathlib.Core.Path.{◌≡◌}
 use mathlib.Core.List.{List}
 use lib.Dec.{eqb}
 use borrow.Author.Tests.{lt-ltb, le-ltb, eq-eqb, ne_eqb}
-use Rattle.search.specs.Choice.{if◌then◌else◌}
+use Rattle.std.specs.Prelude.{if◌then◌else◌}
 use Rattle.text.specs.Bytes.{byte_at, digit_of, unit_of}
 use Rattle.text.specs.Numbers.{digits_end, digits_value, digits, number, cap, capped}
 use Rattle.text.specs.Reading.{gives, refuses}

@@ -1,6 +1,5 @@
 -- Document 01, "Regions text": bytes. Past the end a text reads as 0, which no part of a text can be.
-use Rattle.std.specs.Prelude.{ℕ, ◌-◌, ◌^◌, Bool, ◌&&◌, ◌||◌, List, leb, eqb, get_or}
-use Rattle.search.specs.Choice.{if◌then◌else◌}
+use Rattle.std.specs.Prelude.{ℕ, ◌-◌, ◌^◌, Bool, ◌&&◌, ◌||◌, List, leb, eqb, get_or, if◌then◌else◌}
 
 abbrev pub byte_at : List ℕ → ℕ → ℕ
 byte_at s i = get_or s i 0

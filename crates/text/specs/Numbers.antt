@@ -1,6 +1,5 @@
 -- Document 01, "Regions text": numbers, and how a number that is above every byte amount is held.
-use Rattle.std.specs.Prelude.{ℕ, zero, suc, ◌+◌, ◌-◌, ◌*◌, ◌^◌, Bool, not, ◌&&◌, List, ltb, eqb, length}
-use Rattle.search.specs.Choice.{if◌then◌else◌}
+use Rattle.std.specs.Prelude.{ℕ, zero, suc, ◌+◌, ◌-◌, ◌*◌, ◌^◌, Bool, not, ◌&&◌, List, ltb, eqb, length, if◌then◌else◌}
 use Rattle.search.specs.Search.{lowest_from}
 use Rattle.text.specs.Bytes.{byte_at, digit_of, unit_of}
 use Rattle.text.specs.Reading.{Read, gives, refuses, refuse_if}

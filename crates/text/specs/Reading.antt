@@ -1,6 +1,5 @@
 -- Reading a text from left to right: what a part of it gives, and the parts one after the other.
-use Rattle.std.specs.Prelude.{ℕ, Bool}
-use Rattle.search.specs.Choice.{if◌then◌else◌}
+use Rattle.std.specs.Prelude.{ℕ, Bool, if◌then◌else◌}
 use Rattle.text.specs.declared.Scan.{Scan}
 use Rattle.text.specs.declared.Scan.TheVariants.{Gives, Refuses}
 
@@ -10,7 +9,7 @@ pub data Read (A : Type 0) : Type 0 where
   refuses : ℕ → ℕ → Read A
 
 -- the next part reads on where this one ended; a refusal ends it all
-infixl 4 ◌then◌
+infixl 6 ◌then◌
 abbrev pub ◌then◌ : {A B : Type 0} → Read A → (A → ℕ → Read B) → Read B
 gives v at then next = next v at
 refuses number at then next = refuses number at

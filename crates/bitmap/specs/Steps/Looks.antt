@@ -1,6 +1,5 @@
 -- What a step of the search looks for.
-use Rattle.std.specs.Prelude.{ℕ, suc, ◌+◌, ◌-◌, ◌/◌, ◌%◌, ◌<◌, min, Bool, not, ◌&&◌, List, ◌≡◌, eqb, length, get_or}
-use Rattle.search.specs.Choice.{if◌then◌else◌}
+use Rattle.std.specs.Prelude.{ℕ, suc, ◌+◌, ◌-◌, ◌/◌, ◌%◌, ◌<◌, min, Bool, not, ◌&&◌, List, ◌≡◌, eqb, length, get_or, if◌then◌else◌}
 use Rattle.search.specs.Search.{lowest, every}
 use Rattle.bitmap.specs.Bits.{bit_of, spanned}
 use Rattle.bitmap.specs.declared.looks.Found.{Found}

@@ -1,6 +1,5 @@
 -- What the calls on a live page share: their first three checks, as one step.
-use Rattle.std.specs.Prelude.{ℕ, not}
-use Rattle.search.specs.Choice.{if◌then◌else◌}
+use Rattle.std.specs.Prelude.{ℕ, not, if◌then◌else◌}
 use Rattle.frames.specs.Tables.{Tables}
 use Rattle.rules.specs.declared.Record.{Record}
 use Rattle.page_calls.specs.declared.Found.{Found}

@@ -1,7 +1,6 @@
 -- The steps by which a region is read, in the terms of the rules: each is a part of a definition of `Amounts` or `Text`, and the contract
 -- of the function that takes the step. And what the functions' own answers stand for.
-use Rattle.std.specs.Prelude.{ℕ, Bool, false, not, ◌&&◌, ◌||◌, List, ltb, eqb, length}
-use Rattle.search.specs.Choice.{if◌then◌else◌}
+use Rattle.std.specs.Prelude.{ℕ, Bool, false, not, ◌&&◌, ◌||◌, List, ltb, eqb, length, if◌then◌else◌}
 use Rattle.text.specs.Names.{name, same_bytes}
 use Rattle.text.specs.Numbers.{most_bytes}
 use Rattle.text.specs.Reading.{Read, gives, refuses, ◌then◌, refuse_if}

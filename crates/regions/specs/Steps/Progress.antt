@@ -1,6 +1,5 @@
 -- How far a text is read, region by region: the contracts of the reader's functions.
-use Rattle.std.specs.Prelude.{ℕ, ◌≤◌, ◌≡◌, true, false, List, [], ◌∷◌, ◌++◌, leb, ltb, eqb, length, take}
-use Rattle.search.specs.Choice.{if◌then◌else◌}
+use Rattle.std.specs.Prelude.{ℕ, ◌≤◌, ◌≡◌, true, false, List, [], ◌∷◌, ◌++◌, leb, ltb, eqb, length, take, if◌then◌else◌}
 use Rattle.text.specs.Reading.{Read, gives, refuses}
 use Rattle.regions.specs.declared.Region.{Region}
 use Rattle.regions.specs.declared.Regions.{Regions}

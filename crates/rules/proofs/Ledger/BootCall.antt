@@ -2,7 +2,7 @@
 use Rattle.std.proofs.Common.{◌≡◌, ℕ, suc, ◌+◌, ◌/◌, ◌<◌, ◌≤◌, Bool, true, false, not, ◌&&◌, eqb, List, [], ◌∷◌, length, replicate, sym, refl, ap, ◌∙◌, arith, ne_eqb, eqb-true}
 use lib.ListN.{length-replicate, get_or-replicate}
 use borrow.Author.Tests.{not-false}
-use Rattle.search.specs.Choice.{if◌then◌else◌}
+use Rattle.std.specs.Prelude.{if◌then◌else◌}
 use Rattle.search.proofs.Bools.{clash}
 use Rattle.search.proofs.Counts.{many_zero}
 use Rattle.search.proofs.Ranges.{none_some}

@@ -1,7 +1,7 @@
 -- What the invariant says of a state: parts (1) to (5) and (7) of demand 3, of which (2) says more of the list. Assumes nothing.
 use Rattle.std.proofs.Common.{◌≡◌, ℕ, ◌+◌, ◌-◌, ◌<◌, ◌≤◌, Bool, true, false, not, ◌&&◌, ◌||◌, eqb, ltb, leb, ◌≢◌, sym, refl, ap, ◌∙◌, arith, ltb-false, ltb-true, le-ltb, lt-ltb, eq-eqb, ne_eqb, eqb-true}
 use borrow.Author.Tests.{lt-leb, not-false}
-use Rattle.search.specs.Choice.{if◌then◌else◌}
+use Rattle.std.specs.Prelude.{if◌then◌else◌}
 use Rattle.search.proofs.Bools.{by_cases, below_or_not, clash, or_neither, or_left, or_right, and_left, and_right, and_both}
 use Rattle.answer.specs.Answers.{done}
 use Rattle.frames.specs.declared.Frame.{Frame}

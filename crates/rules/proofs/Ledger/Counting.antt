@@ -3,7 +3,7 @@
 --     Small             the counters are numbers of 32 bits
 --     counters_right    the statement
 use Rattle.std.proofs.Common.{◌≡◌, ℕ, ◌+◌, ◌%◌, ◌<◌, ◌≤◌, Bool, true, false, not, ◌&&◌, ◌||◌, eqb, List, [], ◌∷◌, ◌++◌, length, sym, refl, ap, ◌∙◌, arith}
-use Rattle.search.specs.Choice.{if◌then◌else◌}
+use Rattle.std.specs.Prelude.{if◌then◌else◌}
 use borrow.Author.Tests.{not-true}
 use Rattle.search.proofs.Bools.{by_cases, and_left, and_right, and_both}
 use Rattle.rules.specs.declared.Call.{Call}

@@ -1,6 +1,6 @@
 -- Demand 3: the theorem of specs/Ledger/Statement.antt. Assumes nothing.
 use Rattle.std.proofs.Common.{◌≡◌, ℕ, Bool, true, false, eqb, List, length, sym, refl, ◌∙◌, subst, arith, eqb-true}
-use Rattle.search.specs.Choice.{if◌then◌else◌}
+use Rattle.std.specs.Prelude.{if◌then◌else◌}
 use lib.ListN.{length-replicate}
 use borrow.Author.Tests.{not-false}
 use Rattle.search.proofs.Bools.{clash}

@@ -3,7 +3,7 @@
 --     RunMarked       the run's first mark has the count, the others are 5, its words 0; run_marked: `mark_run` is that
 --     grant_sound     the invariant holds with one more live grant
 use Rattle.std.proofs.Common.{◌≡◌, ℕ, suc, ◌+◌, ◌-◌, ◌*◌, ◌%◌, ◌<◌, ◌≤◌, Bool, true, false, ◌||◌, List, ◌∷◌, length, sym, refl, ap, ◌∙◌, subst, mul-le-mul_right, add-mul, div-mul-le_self, arith, length-set, get_or-set_other, get_or-set_same, pow_pos}
-use Rattle.search.specs.Choice.{if◌then◌else◌}
+use Rattle.std.specs.Prelude.{if◌then◌else◌}
 use Rattle.search.specs.Search.{how_many}
 use Rattle.search.proofs.Bools.{by_cases, below_or_not, clash}
 use Rattle.search.proofs.Counts.{many_run}

@@ -4,7 +4,7 @@
 --     without_at, without_among            a list without one of its grants
 --     GrantsKept               no granted mark changes; `granted_same`, `grant_kept`, `total_kept`: so the grants stand
 use Rattle.std.proofs.Common.{◌≡◌, ℕ, ◌+◌, ◌<◌, ◌≤◌, Bool, true, false, ◌||◌, eqb, ltb, leb, List, [], ◌∷◌, sym, refl, ap, ◌∙◌, arith, ltb-false, ltb-true, lt-ltb, eq-eqb, eqb-true, le-leb, leb-true}
-use Rattle.search.specs.Choice.{if◌then◌else◌}
+use Rattle.std.specs.Prelude.{if◌then◌else◌}
 use Rattle.search.specs.Search.{how_many}
 use Rattle.search.proofs.Bools.{by_cases, clash, and_left, and_right, and_both, or_true_right}
 use Rattle.search.proofs.Counts.{many_cong}

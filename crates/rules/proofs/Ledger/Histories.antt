@@ -1,6 +1,6 @@
 -- Every call keeps the invariant and the frames of pinned pages, and so does every admitted list. Assumes nothing.
 use Rattle.std.proofs.Common.{◌≡◌, ℕ, ◌+◌, Bool, true, false, not, ◌&&◌, ◌||◌, List, [], ◌∷◌, sym, refl, ap, ◌∙◌, subst, arith}
-use Rattle.search.specs.Choice.{if◌then◌else◌}
+use Rattle.std.specs.Prelude.{if◌then◌else◌}
 use Rattle.search.proofs.Bools.{by_cases, clash, and_left, and_right}
 use Rattle.frames.specs.declared.Place.{Place}
 use Rattle.frames.specs.Tables.{Tables}

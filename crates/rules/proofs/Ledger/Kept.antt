@@ -5,7 +5,7 @@
 --     sound_page      one frame and one name change, and no granted mark
 --     done_kept       a call that is done, from the invariant after it and the pinned pages' places
 use Rattle.std.proofs.Common.{◌≡◌, ℕ, ◌+◌, ◌<◌, Bool, true, false, not, ◌&&◌, ◌≢◌, sym, refl, ap, ◌∙◌, subst, arith, length-set, ne_eqb}
-use Rattle.search.specs.Choice.{if◌then◌else◌}
+use Rattle.std.specs.Prelude.{if◌then◌else◌}
 use Rattle.search.proofs.Bools.{clash}
 use Rattle.frames.specs.Units.{place}
 use Rattle.frames.specs.Marks.{has_kind, is_page_of, is_granted, pinned}

@@ -1,7 +1,7 @@
 -- Release keeps the invariant: its run is freed, and the live grant whose run it was ends. Assumes nothing.
 use Rattle.std.proofs.Common.{◌≡◌, ℕ, ◌+◌, ◌-◌, ◌<◌, ◌≤◌, true, false, not, ◌||◌, eqb, ltb, sym, refl, ap, ◌∙◌, arith, ltb-false, eqb-true, leb-false}
 use borrow.Author.Tests.{eqb-false, not-false}
-use Rattle.search.specs.Choice.{if◌then◌else◌}
+use Rattle.std.specs.Prelude.{if◌then◌else◌}
 use Rattle.search.specs.Search.{how_many}
 use Rattle.search.proofs.Bools.{clash, or_left, or_right}
 use Rattle.bitmap.specs.Bits.{clear_in, clear_bits}

@@ -4,7 +4,7 @@
 --     Releasable      what an accepted release has checked
 --     OneGrant        the run is in memory and granted, and without that grant no live grant has a frame of it; one_grant: so it is
 use Rattle.std.proofs.Common.{◌≡◌, ℕ, ◌+◌, ◌-◌, ◌%◌, ◌<◌, ◌≤◌, Bool, true, sym, ap, ◌∙◌, arith}
-use Rattle.search.specs.Choice.{if◌then◌else◌}
+use Rattle.std.specs.Prelude.{if◌then◌else◌}
 use Rattle.search.proofs.Bools.{by_cases, below_or_not}
 use Rattle.frames.specs.declared.Frame.{Frame}
 use Rattle.frames.specs.Units.{frame, place}

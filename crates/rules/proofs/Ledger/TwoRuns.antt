@@ -2,7 +2,7 @@
 -- Assumes nothing.
 use Rattle.std.proofs.Common.{◌≡◌, ℕ, Bool, true, false, not, ◌&&◌, ◌||◌, eqb, List, [], ◌∷◌, length, take, sym, refl, ap, ◌∙◌, subst, eqb-true}
 use borrow.Author.Tests.{eqb-false}
-use Rattle.search.specs.Choice.{if◌then◌else◌}
+use Rattle.std.specs.Prelude.{if◌then◌else◌}
 use Rattle.search.proofs.Bools.{by_cases, clash, and_left, and_right}
 use Rattle.answer.specs.declared.Answer.{Answer}
 use Rattle.frames.specs.Tables.{Tables}

@@ -2,7 +2,7 @@
 use Rattle.std.proofs.Common.{◌≡◌, ℕ, suc, Bool, true, false, not, ◌&&◌, eqb, ◌⊎◌, ◌↔◌, List, [], ◌∷◌, sym, refl, ◌∙◌, subst, ap₂, inl, inr, ⊎_elim, eqb-true}
 use mathlib.Core.Logic.Iff
 use borrow.Author.Tests.{eqb-false}
-use Rattle.search.specs.Choice.{if◌then◌else◌}
+use Rattle.std.specs.Prelude.{if◌then◌else◌}
 use Rattle.frames.specs.Tables.{Tables}
 use Rattle.regions.specs.declared.Region.{Region}
 use Rattle.text.specs.Reading.{Read, gives, refuses, ◌then◌, refuse_if}

@@ -1,6 +1,6 @@
 -- The conditions of declare's numbers. Assumes nothing.
 use Rattle.std.proofs.Common.{◌≡◌, ℕ, ◌+◌, ◌*◌, ◌^◌, ◌<◌, ◌≤◌, Bool, not, ◌&&◌, eqb, ltb, leb, ◌≢◌, ◌⊎◌, ◌↔◌, length, sym, refl, ap, subst, inl, inr, ⊎_elim, add-mul, arith, pow_mono, le-leb, leb-true}
-use Rattle.search.specs.Choice.{if◌then◌else◌}
+use Rattle.std.specs.Prelude.{if◌then◌else◌}
 use Rattle.search.proofs.Bools.{below_or_not}
 use Rattle.frames.specs.Areas.{ceiling, word_count}
 use Rattle.frames.specs.Tables.{Tables}

@@ -2,7 +2,7 @@
 use Rattle.std.proofs.Common.{◌≡◌, ℕ, zero, suc, ◌+◌, ◌-◌, ◌*◌, ◌≤◌, Bool, not, eqb, List, [], ◌∷◌, ◌++◌, length, take, drop, refl, ap, ◌∙◌, arith, length-append, length-drop, ltb-false}
 use mathlib.Core.Path.{fun_ext}
 use lib.Seq.{take-append_seam, drop-append_seam}
-use Rattle.search.specs.Choice.{if◌then◌else◌}
+use Rattle.std.specs.Prelude.{if◌then◌else◌}
 use Rattle.search.specs.Search.{how_many, longest}
 use Rattle.search.proofs.Bools.{by_cases}
 use Rattle.search.proofs.Counts.{many_none, many_pass, many_fail}

@@ -1,8 +1,7 @@
 -- Document 01, "The ledger of demand 3": what each call is to the ledger, for how many frames it is lent tables, and whether it is a grant, which is
 -- counted, a boot, or a report, which writes, in one table. The ledger is fed each call with its arguments, whether it was refused, and the
 -- frame a grant answers, and nothing else.
-use Rattle.std.specs.Prelude.{ℕ, Bool, true, false, nat_eq}
-use Rattle.search.specs.Choice.{if◌then◌else◌}
+use Rattle.std.specs.Prelude.{ℕ, Bool, true, false, nat_eq, if◌then◌else◌}
 use Rattle.frames.specs.Units.{frame}
 use Rattle.rules.specs.declared.Call.{Call}
 use Rattle.rules.specs.Ledger.Ledger.{Ledger, grant_of, with_page, with_grant, end_grant, with_device_word}

@@ -1,6 +1,5 @@
 -- What an accepted grant does to the pages, the frames and the bits: in plain quantifiers.
-use Rattle.std.specs.Prelude.{◌≡◌, ℕ, ◌+◌, ◌-◌, ◌*◌, ◌<◌, ◌≤◌, true, false}
-use Rattle.search.specs.Choice.{if◌then◌else◌}
+use Rattle.std.specs.Prelude.{◌≡◌, ℕ, ◌+◌, ◌-◌, ◌*◌, ◌<◌, ◌≤◌, true, false, if◌then◌else◌}
 use Rattle.answer.specs.Answers.{done}
 use Rattle.frames.specs.Units.{place, bit}
 use Rattle.frames.specs.Marks.{mark_of, has_kind, movable, head, later}

@@ -1,7 +1,6 @@
 -- What holds between the record, the boot's tables and the ledger after an accepted boot, and is kept by every call: the rules by which a table
 -- entry can be called sound.
-use Rattle.std.specs.Prelude.{◌≡◌, ℕ, ◌+◌, ◌-◌, ◌<◌, ◌≤◌, Bool, true, false, not, length}
-use Rattle.search.specs.Choice.{if◌then◌else◌}
+use Rattle.std.specs.Prelude.{◌≡◌, ℕ, ◌+◌, ◌-◌, ◌<◌, ◌≤◌, Bool, true, false, not, length, if◌then◌else◌}
 use Rattle.search.specs.Search.{how_many, some as any_of}
 use Rattle.bitmap.specs.Bits.{is_clear}
 use Rattle.frames.specs.Units.{place, bit}

@@ -1,6 +1,5 @@
 -- What a declaration comes to, without changing anything: the area, or the number of the first check that holds.
-use Rattle.std.specs.Prelude.{ℕ, ◌*◌, ◌/◌, ◌≤◌, ◌<◌, List, [], ◌∷◌, ◌≡◌, drop}
-use Rattle.search.specs.Choice.{if◌then◌else◌}
+use Rattle.std.specs.Prelude.{ℕ, ◌*◌, ◌/◌, ◌≤◌, ◌<◌, List, [], ◌∷◌, ◌≡◌, drop, if◌then◌else◌}
 use Rattle.frames.specs.declared.Area.{Area}
 use Rattle.frames.specs.Tables.{Tables, tables}
 use Rattle.text.specs.Numbers.{most_bytes}

@@ -1,6 +1,5 @@
 -- What is judged of the lists lent before a call is made.
-use Rattle.std.specs.Prelude.{ℕ, ◌≡◌, Bool, ◌||◌, List}
-use Rattle.search.specs.Choice.{if◌then◌else◌}
+use Rattle.std.specs.Prelude.{ℕ, ◌≡◌, Bool, ◌||◌, List, if◌then◌else◌}
 use Rattle.answer.specs.Answers.{refused}
 use Rattle.szk.specs.Layout.{record_length, answer_length, answer_numbers, over}
 use Rattle.szk.specs.Exported.{is_short, told_short}

@@ -1,6 +1,5 @@
 -- The steps by which a number is read: each is a part of `number`, and the contract of the function that takes the step.
-use Rattle.std.specs.Prelude.{ℕ, ◌+◌, not, List, eqb}
-use Rattle.search.specs.Choice.{if◌then◌else◌}
+use Rattle.std.specs.Prelude.{ℕ, ◌+◌, not, List, eqb, if◌then◌else◌}
 use Rattle.text.specs.Bytes.{byte_at}
 use Rattle.text.specs.Numbers.{is_digit, digits}
 use Rattle.text.specs.Reading.{Read, refuse_if}

@@ -3,7 +3,7 @@ use Rattle.text.proofs.Digits.{digits_read}
 use Rattle.text.proofs.Classes.{unit_some, unit_inside}
 use Rattle.text.specs.Numbers.{capped, digits}
 use Rattle.text.specs.Reading.{gives}
-use Rattle.search.specs.Choice.{if◌then◌else◌}
+use Rattle.std.specs.Prelude.{if◌then◌else◌}
 use Prim.Native.Nat.{◌+◌}
 use lib.Dec.{eqb}
 use mathlib.Core.Path.{◌≡◌, sym, ◌∙◌}
