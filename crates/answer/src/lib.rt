@@ -1,50 +1,67 @@
-// What every call answers: document 01's section "Numbers the clerk sees".
+// What every call answers: document 01's section "Numbers the clerk sees". A call gives two numbers or is refused; what the clerk sees of either
+// is three numbers.
 #![tactic(auto)]
 
 ghost use Rattle.std.specs.Prelude.{◌≡◌};
-ghost use Rattle.answer.specs.Answers.{done, refused, refused_at};
+ghost use Rattle.answer.specs.Answers.{number_of, answer_at};
 
-pub mod refusal;
+mod refusal;
 
-// A refusal's number, or 0 where the call is done, and two numbers.
-#[derive(Clone, Copy)]
+pub use refusal::Refusal;
+
+// The two numbers that a call answers when it is done.
+#[derive(Clone, Copy, Debug, PartialEq, Eq)]
+pub struct Numbers {
+    pub first: u64,
+    pub second: u64,
+}
+
+impl Numbers {
+    // What a call answers that has nothing to tell.
+    pub const NONE: Numbers = Numbers {
+        first: 0,
+        second: 0,
+    };
+}
+
+// A refusal at a place: an offset in a text, or the index of a region; 0 where it has none.
+#[derive(Clone, Copy, Debug, PartialEq, Eq)]
+pub struct Refused {
+    pub refusal: Refusal,
+    pub place: usize,
+}
+
+impl From<Refusal> for Refused {
+    ghost from_gives = { λ refusal refused. refused ≡ record { refusal = refusal; place = 0 } };
+
+    fn from(refusal: Refusal) -> Refused {
+        Refused { refusal, place: 0 }
+    }
+}
+
+// What the clerk sees: the refusal's number, or 0 where the call is done, and two numbers more.
+#[derive(Clone, Copy, Debug, PartialEq, Eq)]
 pub struct Answer {
     pub refusal: u64,
     pub first: u64,
     pub second: u64,
 }
 
-impl Answer {
-    // The call is done, and answers two numbers.
-    pub fn done(first: u64, second: u64) -> Self
-        ensures { result ≡ done first second }
-    {
-        Self {
-            refusal: refusal::NONE,
-            first,
-            second,
-        }
-    }
+impl From<Result<Numbers, Refused>> for Answer {
+    ghost from_gives = { λ given answer. answer ≡ answer_at given };
 
-    // The call is refused: the refusal's number and two zeros.
-    pub fn refused(number: u64) -> Self
-        ensures { result ≡ refused number }
-    {
-        Self {
-            refusal: number,
-            first: 0,
-            second: 0,
-        }
-    }
-
-    // A boot is refused at a place, an offset in its text or the index of a region.
-    pub fn refused_at(number: u64, place: u64) -> Self
-        ensures { result ≡ refused_at number place }
-    {
-        Self {
-            refusal: number,
-            first: place,
-            second: 0,
+    fn from(given: Result<Numbers, Refused>) -> Answer {
+        match given {
+            Ok(numbers) => Answer {
+                refusal: 0,
+                first: numbers.first,
+                second: numbers.second,
+            },
+            Err(refused) => Answer {
+                refusal: u64::from(refused.refusal),
+                first: refused.place as u64,
+                second: 0,
+            },
         }
     }
 }

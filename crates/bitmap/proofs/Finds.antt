@@ -1,14 +1,12 @@
 -- The search of a bitmap, walked by words as the code does. Assumes nothing.
 --     lowest_beyond      a search whose first numbers do not pass goes on behind them
---     span_some, span_within     how many words hold some bits; as many from the same place of any word
+--     span_some          how many words hold some bits
 --     span_to, span_past     to a bit of the word at hand; as far or further
 --     Passing            what holds at the head of the loop: what is left of the search, and how many words were looked at
 --     pass_start, pass_out, pass_found, pass_turn, pass_end
---     finds_at, finds_out    from the word on that holds the first bit; past the words' end
 --     open_bits, set_bits_lem    what is found, in the bitmap's own words
 --     out_here, out_next, out_none    past the words' end: in the rest of the word at hand; in the next; nowhere
 use Prim.Native.Nat.{ℕ, zero, suc, ◌+◌, ◌-◌, ◌*◌, ◌/◌, ◌%◌, ◌^◌, ◌≤◌, ◌<◌, min, max}
-use native.Mathlib.Nat.{zero-add}
 use native.Mathlib.Omega.{arith}
 use mathlib.Core.Path.{◌≡◌, refl, sym, ap, ◌∙◌}
 use mathlib.Core.Bool.{Bool, true, false, not, ◌&&◌}
@@ -42,12 +40,8 @@ span_some : (j n : ℕ) → 0 < n → spanned j n ≡ (j % 64 + n + 63) / 64
 span_some j zero h = absurd (omega arith)
 span_some j (suc n) h = omega (arith, spanned_words j n)
 
-span_within : (j n : ℕ) → spanned (j % 64) n ≡ spanned j n
-span_within j zero = none_spanned (j % 64) ∙ sym (none_spanned j)
-span_within j (suc n) = omega (arith, spanned_words j n, spanned_words (j % 64) n)
-
--- from bit j of a word, where bit `low` of the word `looks` words on is `passed` bits on
-module _ (j passed looks low : ℕ) (short : j < 64) (even : 64 * looks + low ≡ j + passed) where
+-- from bit j on, where bit `low` of the word `looks` words on is `passed` bits on
+module _ (j passed looks low : ℕ) (even : 64 * looks + low ≡ j % 64 + passed) where
   span_to : (d : ℕ) → 0 < d → low + d ≤ 64 → spanned j (passed + d) ≡ looks + 1
   span_to d some h = omega (arith, span_some j (passed + d) (omega arith))
 
@@ -81,135 +75,116 @@ module _ (run starts : ℕ) (ws : List ℕ) (start from count : ℕ) where
   abbrev goal : ℕ
   goal = lowest (λ k. wanted run starts ws start (from + k)) count
 
-  -- what is left, from a bit of a word on
+  -- of the bits that are left, from a bit of a word on
   abbrev rest : ℕ → ℕ → ℕ → ℕ
-  rest at low passed = lowest (λ k. wanted run starts ws at (low + k)) (count - passed)
+  rest at low left = lowest (λ k. wanted run starts ws at (low + k)) left
 
-  pub record Passing (at low passed looks : ℕ) : Type 0 where
+  pub record Passing (at low left looks : ℕ) : Type 0 where
     pub in_word : low < 64
-    pub high : passed ≤ count
-    pub is : goal ≡ passed + rest at low passed
-    pub words : at ≡ start + looks
-    pub in_slice : looks ≤ length ws - start
-    pub even : passed < count → 64 * looks + low ≡ from + passed
-    pub spans : looks ≡ spanned from passed
+    pub high : left ≤ count
+    pub is : goal ≡ count - left + rest at low left
+    pub words : length ws - (start + from / 64) ≡ looks + (length ws - at)
+    pub even : 0 < left → 64 * looks + low ≡ from % 64 + (count - left)
+    pub spans : looks ≡ spanned from (count - left)
 
-  pub pass_start : from < 64 → Passing start from 0 0
-  pass_start h =
-      let all : count ≡ count - 0 = omega arith in
+  -- from the word on that holds the first bit, or from one past the words' end
+  pub pass_start : (at most : ℕ) → at ≡ min (start + from / 64) most → length ws ≤ most → Passing at (from % 64) count 0
+  pass_start at most e h =
+      let none : count - count ≡ 0 = omega arith in
       record {
-        in_word = h;
+        in_word = omega arith;
         high = omega arith;
-        is = ap (lowest (λ k. wanted run starts ws start (from + k))) all ∙ sym (zero-add _);
+        is = omega (arith, found_cong (λ k. wanted run starts ws start (from + k)) (λ k. wanted run starts ws at (from % 64 + k)) count (λ k l. same k));
         words = omega arith;
-        in_slice = omega arith;
         even = λ l. omega arith;
-        spans = sym (none_spanned from);
+        spans = rw none (sym (none_spanned from));
       }
+    where
+      same : (k : ℕ) → wanted run starts ws start (from + k) ≡ wanted run starts ws at (from % 64 + k)
+      same k =
+          below_or_not at (length ws)
+          (λ inside.
+          let place : from + k ≡ 64 * (from / 64) + (from % 64 + k) = omega arith in
+          let here : start + from / 64 ≡ at = omega arith in
+          ap (wanted run starts ws start) place ∙ wanted_shift run starts ws start (from / 64) (from % 64 + k) ∙
+          ap (λ (x : ℕ). wanted run starts ws x (from % 64 + k)) here)
+          (λ out.
+          let bit : (from + k) % 64 ≡ (from % 64 + k) % 64 = omega arith in
+          wanted_out run starts ws start (from + k) (omega arith) ∙ ap (wanted_in run starts 0) bit ∙
+          sym (wanted_out run starts ws at (from % 64 + k) (omega arith)))
 
-  module _ (short : from < 64) (at low passed looks : ℕ) (p : Passing at low passed looks) where
+  module _ (at low left looks : ℕ) (p : Passing at low left looks) where
     -- a step's result, from what it passed and the words it looked at
     finds :
-        (r : Found) (n : ℕ) → r.bits ≡ goal → min (suc r.bits) count ≡ n → r.looks ≡ min (spanned from n) (length ws - start) →
+        (r : Found) (n : ℕ) → r.bits ≡ goal → min (suc r.bits) count ≡ n → r.looks ≡ min (spanned from n) (length ws - (start + from / 64)) →
         Finds run starts ws start from count r
-    finds r n e m l = let first : start + from / 64 ≡ start = omega arith in record { bits = e; looks = rw (m, first) l }
+    finds r n e m l = record { bits = e; looks = rw m l }
 
-    pub pass_end : (r : Found) → count ≤ passed → r.bits ≡ count → r.looks ≡ looks → Finds run starts ws start from count r
+    pub pass_end : (r : Found) → left ≡ 0 → r.bits ≡ count → r.looks ≡ looks → Finds run starts ws start from count r
     pass_end r h b l =
-        let none : rest at low passed ≡ 0 = found_none (λ k. wanted run starts ws at (low + k)) (count - passed) (λ k a. absurd (omega arith)) ∙ omega arith in
-        finds r passed (omega (arith, p.is, p.high)) (omega (arith, p.high)) (omega (arith, p.spans, p.in_slice))
+        let none : rest at low left ≡ 0 = omega (arith, lowest_le (λ k. wanted run starts ws at (low + k)) left) in
+        finds r (count - left) (omega (arith, p.is, p.high)) (omega (arith, p.high)) (omega (arith, p.spans, p.words))
 
-    module _ (more : passed < count) where
-      -- all words to the slice's end were looked at
-      ended : length ws ≤ at → (n : ℕ) → passed < n → looks ≡ min (spanned from n) (length ws - start)
-      ended h n l = omega (arith, span_past from passed looks low short (p.even more) n l, p.words, p.in_slice)
+    -- all words to the slice's end were looked at
+    pub pass_out :
+        (r : Found) (far : ℕ) → length ws ≤ at → far ≡ lowest (λ k. wanted_in run starts 0 ((low + k) % 64)) left →
+        r.bits ≡ count - left + far → r.looks ≡ looks → Finds run starts ws start from count r
+    pass_out r far h f b l =
+        let same : far ≡ rest at low left =
+        f ∙
+        found_cong (λ k. wanted_in run starts 0 ((low + k) % 64)) (λ k. wanted run starts ws at (low + k)) left
+        (λ k a. sym (wanted_out run starts ws at (low + k) (omega arith)))
+        in
+        below_or_not 0 left
+        (λ more. finds r _ (omega (arith, p.is)) refl (l ∙ ended more (min (suc r.bits) count) (omega (arith, p.high))))
+        (λ all. pass_end r (omega arith) (omega (arith, p.high, same, lowest_le (λ k. wanted run starts ws at (low + k)) left)) l)
+      where
+        ended : 0 < left → (n : ℕ) → count - left < n → looks ≡ min (spanned from n) (length ws - (start + from / 64))
+        ended more n l = omega (arith, span_past from (count - left) looks low (p.even more) n l, p.words)
 
-      pub pass_out :
-          (r : Found) (far : ℕ) → length ws ≤ at → far ≡ lowest (λ k. wanted_in run starts 0 ((low + k) % 64)) (count - passed) →
-          r.bits ≡ passed + far → r.looks ≡ looks → Finds run starts ws start from count r
-      pass_out r far h f b l =
-          let same : far ≡ rest at low passed =
-          f ∙
-          found_cong (λ k. wanted_in run starts 0 ((low + k) % 64)) (λ k. wanted run starts ws at (low + k)) (count - passed)
-          (λ k a. sym (wanted_out run starts ws at (low + k) (omega arith)))
+    -- the word's bits that are looked at, and where the first one wanted of them is
+    module _
+        (more : 0 < left) (inside : at < length ws) (word hits part near : ℕ) (w : word ≡ get_or ws at 0) (told : Hits run starts word hits)
+        (e : part ≡ min left (64 - low)) (n : near ≡ lowest (λ k. not (eqb (bit_of hits (low + k)) 0)) part) where
+      abbrev here : ℕ → Bool
+      here k = wanted run starts ws at (low + k)
+
+      same : near ≡ lowest here part
+      same =
+          n ∙
+          found_cong (λ k. not (eqb (bit_of hits (low + k)) 0)) here part
+          (λ k l.
+          told (low + k) (omega (arith, p.in_word)) ∙ ap (λ (x : ℕ). wanted_in run starts x (low + k)) w ∙
+          sym (wanted_word run starts ws at (low + k) (omega (arith, p.in_word))))
+
+      pub pass_found : (r : Found) → near < part → r.bits ≡ count - left + near → r.looks ≡ looks + 1 → Finds run starts ws start from count r
+      pass_found r h b l =
+          let s = same in
+          let found : rest at low left ≡ lowest here part =
+          found_is here left (lowest here part) (omega arith) (found_passes here part (omega arith)) (found_low here part)
           in
-          finds r _ (omega (arith, p.is)) refl (l ∙ ended h (min (suc r.bits) count) (omega arith))
+          let words = span_to from (count - left) looks low (p.even more) (near + 1) (omega arith) (omega (arith, p.in_word)) in
+          finds r (count - left + (near + 1)) (omega (arith, p.is)) (omega (arith, p.high)) (omega (arith, p.words))
 
-      -- the word's bits that are looked at, and where the first one wanted of them is
-      module _
-          (inside : at < length ws) (hits left near : ℕ) (told : Hits run starts (get_or ws at 0) hits) (e : left ≡ min (count - passed) (64 - low))
-          (n : near ≡ lowest (λ k. not (eqb (bit_of hits (low + k)) 0)) left) where
-        abbrev here : ℕ → Bool
-        here k = wanted run starts ws at (low + k)
-
-        same : near ≡ lowest here left
-        same =
-            n ∙
-            found_cong (λ k. not (eqb (bit_of hits (low + k)) 0)) here left
-            (λ k l. told (low + k) (omega (arith, p.in_word)) ∙ sym (wanted_word run starts ws at (low + k) (omega (arith, p.in_word))))
-
-        pub pass_found : (r : Found) → near < left → r.bits ≡ passed + near → r.looks ≡ looks + 1 → Finds run starts ws start from count r
-        pass_found r h b l =
-            let s = same in
-            let found : rest at low passed ≡ lowest here left =
-            found_is here (count - passed) (lowest here left) (omega arith) (found_passes here left (omega arith)) (found_low here left)
-            in
-            let words = span_to from passed looks low short (p.even more) (near + 1) (omega arith) (omega (arith, p.in_word)) in
-            finds r (passed + (near + 1)) (omega (arith, p.is)) (omega arith) (omega (arith, p.words))
-
-        pub pass_turn : (seen : ℕ) → left ≤ near → seen ≡ looks + 1 → Passing (at + 1) 0 (passed + left) seen
-        pass_turn seen h c =
-            let s = same in
-            record {
-              in_word = omega arith;
-              high = omega arith;
-              is = p.is ∙ ap (λ (x : ℕ). passed + x) (lowest_beyond here (count - passed) left (omega arith) (λ k l. found_low here left k (omega arith))) ∙ next;
-              words = omega (arith, p.words);
-              in_slice = omega (arith, p.words);
-              even = λ l. omega (arith, p.even more, p.in_word);
-              spans = c ∙ sym (span_to from passed looks low short (p.even more) left (omega (arith, p.in_word)) (omega (arith, p.in_word)));
-            }
-          where
-            next : passed + (left + lowest (λ k. here (left + k)) (count - passed - left)) ≡ passed + left + rest (at + 1) 0 (passed + left)
-            next =
-                let same_rest : count - passed - left ≡ count - (passed + left) = omega arith in
-                let on : lowest (λ k. here (left + k)) (count - (passed + left)) ≡ rest (at + 1) 0 (passed + left) =
-                found_cong (λ k. here (left + k)) (λ k. wanted run starts ws (at + 1) (0 + k)) (count - (passed + left))
-                (λ k l.
-                let end : low + (left + k) ≡ 64 * 1 + (0 + k) = omega (arith, p.in_word) in
-                ap (wanted run starts ws at) end ∙ wanted_shift run starts ws at 1 (0 + k))
-                in
-                rw same_rest (omega arith)
-
--- ---- from the word on that holds the first bit
-module _ (run starts : ℕ) (ws : List ℕ) (start from count : ℕ) where
-  pub finds_at : (at : ℕ) (r : Found) → start + from / 64 ≡ at → Finds run starts ws at (from % 64) count r → Finds run starts ws start from count r
-  finds_at at r here f =
-      record {
-        bits =
-            f.bits ∙
-            found_cong (λ k. wanted run starts ws at (from % 64 + k)) (λ k. wanted run starts ws start (from + k)) count
-            (λ k l.
-            let place : from + k ≡ 64 * (from / 64) + (from % 64 + k) = omega arith in
-            rw (place, ← here) (sym (wanted_shift run starts ws start (from / 64) (from % 64 + k))));
-        looks =
-            let word : at + from % 64 / 64 ≡ start + from / 64 = omega arith in
-            rw (← word, ← span_within from (min (suc r.bits) count)) f.looks;
-      }
-
-  pub finds_out :
-      (r : Found) → length ws ≤ start + from / 64 → r.bits ≡ lowest (λ k. wanted_in run starts 0 ((from % 64 + k) % 64)) count → r.looks ≡ 0 →
-      Finds run starts ws start from count r
-  finds_out r h b l =
-      record {
-        bits =
-            b ∙
-            found_cong (λ k. wanted_in run starts 0 ((from % 64 + k) % 64)) (λ k. wanted run starts ws start (from + k)) count
-            (λ k a.
-            let bit : (from % 64 + k) % 64 ≡ (from + k) % 64 = omega arith in
-            rw bit (sym (wanted_out run starts ws start (from + k) (omega arith))));
-        looks = omega arith;
-      }
+      pub pass_turn : (seen : ℕ) → part ≤ near → seen ≡ looks + 1 → Passing (at + 1) 0 (left - part) seen
+      pass_turn seen h c =
+          let s = same in
+          let on : count - (left - part) ≡ count - left + part = omega (arith, p.high) in
+          record {
+            in_word = omega arith;
+            high = omega (arith, p.high);
+            is = omega (arith, p.is, p.high, lowest_beyond here left part (omega arith) (λ k l. found_low here part k (omega arith)), next);
+            words = omega (arith, p.words);
+            even = λ l. omega (arith, p.even more, p.in_word, p.high);
+            spans = rw on (c ∙ sym (span_to from (count - left) looks low (p.even more) part (omega (arith, p.in_word)) (omega (arith, p.in_word))));
+          }
+        where
+          next : lowest (λ k. here (part + k)) (left - part) ≡ rest (at + 1) 0 (left - part)
+          next =
+              found_cong (λ k. here (part + k)) (λ k. wanted run starts ws (at + 1) (0 + k)) (left - part)
+              (λ k l.
+              let end : low + (part + k) ≡ 64 * 1 + (0 + k) = omega (arith, p.in_word) in
+              ap (wanted run starts ws at) end ∙ wanted_shift run starts ws at 1 (0 + k))
 
 -- ---- in the bitmap's own words
 pub open_bits :

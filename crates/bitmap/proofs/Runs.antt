@@ -1,6 +1,6 @@
 -- Runs of bits, walked by words as the code does. Assumes nothing.
 --     change_length, change_none, change_split, change_shift    a change keeps the length; of no bits; in two parts; from another word on
---     change_at, change_out      from the word on that holds the first bit; past the words' end
+--     change_out, change_at      past the words' end; from the word on that holds the first bit
 --     change_word, change_turn   within one word; a turn of the code's loop
 --     clear_out                  past the words' end a bit is clear
 use Prim.Native.Nat.{ℕ, zero, suc, ◌+◌, ◌-◌, ◌*◌, ◌/◌, ◌%◌, ◌≤◌, ◌<◌, min}
@@ -44,12 +44,6 @@ module _ (f : ℕ → ℕ → ℕ) where
       let bit : (64 * q + s) % 64 ≡ s % 64 = omega arith in
       rw (word, bit, ← add-suc (64 * q) s) (change_shift (change_bit f ws (st + q) s) st q (suc s) d)
 
-  -- a run from the word on that holds its first bit
-  pub change_at : (ws : List ℕ) (st j d at : ℕ) → st + j / 64 ≡ at → change_bits f ws st j d ≡ change_bits f ws at (j % 64) d
-  change_at ws st j d at here =
-      let place : j ≡ 64 * (j / 64) + j % 64 = omega arith in
-      ap (λ (x : ℕ). change_bits f ws st x d) place ∙ change_shift ws st (j / 64) (j % 64) d ∙ ap (λ (x : ℕ). change_bits f ws x (j % 64) d) here
-
   -- past the words' end there is nothing to change
   pub change_out : (ws : List ℕ) (st j d : ℕ) → length ws ≤ st + j / 64 → change_bits f ws st j d ≡ ws
   unfolding change_bits change_bit
@@ -57,6 +51,17 @@ module _ (f : ℕ → ℕ → ℕ) where
   change_out ws st j (suc d) h =
       let same = set_out ws (st + j / 64) (f (get_or ws (st + j / 64) 0) (j % 64)) h in
       rw same (change_out ws st (suc j) d (omega arith))
+
+  -- a run from the word on that holds its first bit, or from one past the words' end
+  pub change_at : (ws : List ℕ) (st j d at most : ℕ) → at ≡ min (st + j / 64) most → length ws ≤ most
+      → change_bits f ws st j d ≡ change_bits f ws at (j % 64) d
+  change_at ws st j d at most e h =
+      below_or_not at (length ws)
+      (λ inside.
+      let place : j ≡ 64 * (j / 64) + j % 64 = omega arith in
+      let here : st + j / 64 ≡ at = omega arith in
+      ap (λ (x : ℕ). change_bits f ws st x d) place ∙ change_shift ws st (j / 64) (j % 64) d ∙ ap (λ (x : ℕ). change_bits f ws x (j % 64) d) here)
+      (λ out. change_out ws st j d (omega arith) ∙ sym (change_out ws at (j % 64) d (omega arith)))
 
   -- within one word
   pub change_word : (ws : List ℕ) (at s d : ℕ) → at < length ws → s + d ≤ 64 → change_bits f ws at s d ≡ set ws at (change_in f (get_or ws at 0) s d)

@@ -7,9 +7,8 @@
 use Prim.Native.Nat.{ℕ, ◌+◌, ◌-◌, ◌*◌, ◌/◌, ◌%◌, ◌^◌, ◌≤◌, ◌<◌, min, max}
 use native.Mathlib.Omega.{arith}
 use native.Mathlib.Nat.{add_comm, add-zero, add-mul, pow-suc, mod-lt, zero-div}
-use mathlib.Core.Path.{◌≡◌, refl, sym, ap, ap₂, subst, ◌∙◌}
+use mathlib.Core.Path.{◌≡◌, sym, ap, ap₂, subst, ◌∙◌}
 use mathlib.Core.Bool.{Bool, true, not, ◌&&◌}
-use mathlib.Core.Logic.{◌≢◌}
 use lib.Arith.{digits_mod}
 use lib.Bits.{bit_and, bit_or, and_step, and_shr, or_step, or_shr}
 use lib.Dec.{eqb}
@@ -145,21 +144,22 @@ every_high p i d e h true' =
 of_starts : (starts x s : ℕ) {b : Bool} → not (eqb (bit_of x s) 0) ≡ b → not (eqb (bit_of (bit_and x starts) s) 0) ≡ (not (eqb (bit_of starts s) 0) && b)
 of_starts starts x s e = and_set x starts s ∙ ap (λ (b : Bool). not (eqb (bit_of starts s) 0) && b) e
 
-pub hits_set : (run starts w : ℕ) → run ≡ 0 → Hits run starts w (bit_and w starts)
+pub hits_set : (w : ℕ) → Hits 0 (2 ^ 64 - 1) w w
 unfolding wanted_in
-hits_set run starts w e s l = rw e (of_starts starts w s refl)
+hits_set w s l = rw (ones_set s l)
 
 pub hits_open :
-    (run starts reach w x : ℕ) → run ≢ 0 → reach ≡ min run 64 → w < 2 ^ 64 → x < 2 ^ 64 → Smears reach w x →
-    Hits run starts w (bit_and (2 ^ 64 - 1 - x) starts)
+    (run starts reach w x : ℕ) → reach ≡ min (max run 1) 64 → w < 2 ^ 64 → x < 2 ^ 64 → Smears reach w x →
+    Hits (max run 1) starts w (bit_and (2 ^ 64 - 1 - x) starts)
 unfolding wanted_in
-hits_open run starts reach w x some e h k told s l =
+hits_open run starts reach w x e h k told s l =
+    let most = max run 1 in
     let p : ℕ → Bool = λ k. eqb (bit_of w k) 0 in
-    let short : every p s reach ≡ every p s (min run (64 - s)) =
-    below_or_not run (64 - s)
+    let short : every p s reach ≡ every p s (min most (64 - s)) =
+    below_or_not most (64 - s)
     (λ in_word. ap (every p s) (omega arith))
     (λ to_end.
-    let end : min run (64 - s) ≡ 64 - s = omega arith in
+    let end : min most (64 - s) ≡ 64 - s = omega arith in
     every_high p s (64 - s) reach (omega arith) (λ k a. high_clear w k h (omega arith)) ∙ ap (every p s) (sym end))
     in
-    rw (ne_eqb run 0 some) (of_starts starts (2 ^ 64 - 1 - x) s (not_clear x s k l ∙ told s ∙ short))
+    rw (ne_eqb most 0 (λ z. omega arith)) (of_starts starts (2 ^ 64 - 1 - x) s (not_clear x s k l ∙ told s ∙ short))

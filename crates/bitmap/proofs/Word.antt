@@ -3,16 +3,16 @@
 --     bit_here, bit_other   what f does to the bit, and to another
 --     change_in_lem             what a run's change within a word comes to, as a sum
 --     set_run_in, clear_run_in    the same as the code makes it
---     bits_le               a run of bits as a number: where it stands, it is part of the word
 use Prim.Native.Nat.{ℕ, zero, suc, ◌+◌, ◌-◌, ◌*◌, ◌/◌, ◌%◌, ◌^◌, ◌≤◌, ◌<◌}
-use native.Mathlib.Nat.{add-mul, mul_assoc, add-zero, pow-suc, mod-lt, div-add-mod', zero-mul, mod-one, mod-le, le_trans, mul-le-mul_right, div-mul-le_self, mul_right_comm}
+use native.Mathlib.Nat.{add-mul, mul_assoc, add-zero, pow-suc, mod-lt, div-add-mod', zero-mul, mod-one, mul_right_comm}
 use native.Mathlib.Numerals.{add-one}
 use native.Mathlib.Omega.{arith}
 use mathlib.Core.Path.{◌≡◌, sym, ap, subst, ◌∙◌}
 use mathlib.Core.Logic.{◌≢◌}
 use lib.Arith.{digits_div, digits_mod}
-use lib.Bits.{bit_or, or_add_and, and_high}
+use lib.Bits.{bit_and, bit_or, or_add_and, and_comm, and_high}
 use lib.Pow.{pow_pos, pow_mono, split, high, low, field, mod-mod-pow, mod-pow-add, shr-shr}
+use Rattle.std.proofs.lemmas.Nat.{and-not}
 use Rattle.search.proofs.Bools.{below_or_not}
 use Rattle.bitmap.specs.Bits.{bit_of, set_in, clear_in}
 use Rattle.bitmap.specs.Steps.Words.{bits_of, change_in}
@@ -64,9 +64,6 @@ bits_first w s d =
     ap (λ (x : ℕ). w / 2 ^ s % 2 ^ x) (sym (add-one d)) ∙ mod-pow-add (w / 2 ^ s) d 1
     ∙ ap (λ (x : ℕ). x % 2 ^ d * 2 + bit_of w s) (shr-shr w s 1 ∙ ap (λ (x : ℕ). w / 2 ^ x) (add-one s))
 
-pub bits_le : (w s d : ℕ) → bits_of w s d * 2 ^ s ≤ w
-bits_le w s d = le_trans (mul-le-mul_right (2 ^ s) (mod-le (w / 2 ^ s) (2 ^ d))) (div-mul-le_self w (2 ^ s))
-
 module _ {f : ℕ → ℕ → ℕ} {v : ℕ} (ch : Change f v) where
   new_parts : (w s : ℕ) → f w s ≡ (w / 2 ^ suc s * 2 + v) * 2 ^ s + w % 2 ^ s
   new_parts w s =
@@ -108,12 +105,14 @@ module _ {f : ℕ → ℕ → ℕ} {v : ℕ} (ch : Change f v) where
       (omega
       (arith, ch.sum w s, double (bits_of w (suc s) d) s, double v s, add-mul (bits_of w (suc s) d * 2) (bit_of w s) (2 ^ s)))
 
--- ---- the change of a run within a word, as the code makes it: by a mask of ones, or by taking the run's bits away
+-- ---- the change of a run within a word, as the code makes it: by a mask of ones, or by its complement
 pub set_run_in : (w s d : ℕ) → bit_or w (2 ^ (d + s) - 2 ^ s) ≡ change_in set_in w s d
 set_run_in w s d =
     let same : 2 ^ (d + s) ≡ 2 ^ (s + d) = ap (λ (x : ℕ). 2 ^ x) (omega arith) in
     let room : 2 ^ s ≤ 2 ^ (d + s) = pow_mono (omega arith) in
     omega (arith, or_add_and w (2 ^ (d + s) - 2 ^ s), and_high w d s, change_in_lem setting w s d)
 
-pub clear_run_in : (w s d : ℕ) → w - bits_of w s d * 2 ^ s ≡ change_in clear_in w s d
-clear_run_in w s d = omega (arith, change_in_lem clearing w s d)
+pub clear_run_in : (w s d m : ℕ) → w < 2 ^ 64 → m < 2 ^ 64 → m ≡ 2 ^ (d + s) - 2 ^ s → bit_and w (2 ^ 64 - 1 - m) ≡ change_in clear_in w s d
+clear_run_in w s d m h k e =
+    let run : bit_and w m ≡ bits_of w s d * 2 ^ s = rw e (and_high w d s) in
+    omega (arith, and-not 64 m w k h, and_comm w (2 ^ 64 - 1 - m), and_comm w m, run, change_in_lem clearing w s d)

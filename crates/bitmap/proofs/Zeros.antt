@@ -1,7 +1,7 @@
 -- The zeros below a word's lowest set bit, as a search. Assumes nothing.
 --     trailing_lowest    the count that the machine gives is the lowest set bit
---     zeros_none, zeros_found, zeros_left    the cases of the count, of so many bits
-use Prim.Native.Nat.{ℕ, zero, suc, ◌+◌, ◌/◌, ◌%◌, ◌^◌, ◌≤◌, ◌<◌}
+--     zeros_low          the count, of so many bits
+use Prim.Native.Nat.{ℕ, zero, suc, ◌+◌, ◌/◌, ◌%◌, ◌^◌, ◌≤◌, ◌<◌, min}
 use native.Mathlib.Omega.{arith}
 use native.Mathlib.Nat.{div-one, add_comm, mod-lt}
 use native.Mathlib.Numerals.{add-one}
@@ -55,13 +55,11 @@ module _ (w low left : ℕ) where
       trailing_lowest 64 (w / 2 ^ low) ∙
       lowest_cong (set_at (w / 2 ^ low)) test 0 64 (λ k a b. ap (λ (x : ℕ). not (eqb x 0)) (shift_bit w low k ∙ ap (bit_of w) (add_comm k low)))
 
-  pub zeros_none : left ≡ 0 → left ≡ lowest test left
-  zeros_none e = sym (found_none test left (λ k h. absurd (omega arith)))
-
-  pub zeros_found : left ≤ 64 → count_trailing_zeros 64 (w / 2 ^ low) < left → count_trailing_zeros 64 (w / 2 ^ low) ≡ lowest test left
-  zeros_found h l =
+  pub zeros_low : left ≤ 64 → min left (count_trailing_zeros 64 (w / 2 ^ low)) ≡ lowest test left
+  zeros_low h =
       let z = zeros_is in
-      z ∙ sym (found_is test left (lowest test 64) (omega arith) (found_passes test 64 (omega arith)) (found_low test 64))
-
-  pub zeros_left : left ≤ count_trailing_zeros 64 (w / 2 ^ low) → left ≡ lowest test left
-  zeros_left l = let z = zeros_is in sym (found_none test left (λ k h. found_low test 64 k (omega arith)))
+      below_or_not (lowest test 64) left
+      (λ l. let here : min left (count_trailing_zeros 64 (w / 2 ^ low)) ≡ lowest test 64 = omega arith in
+      here ∙ sym (found_is test left (lowest test 64) l (found_passes test 64 (omega arith)) (found_low test 64)))
+      (λ l. let all : min left (count_trailing_zeros 64 (w / 2 ^ low)) ≡ left = omega arith in
+      all ∙ sym (found_none test left (λ k a. found_low test 64 k (omega arith))))

@@ -2,15 +2,16 @@
 --     Steps, steps_known      the distance between them
 --     aligned_times, aligned_between    so many distances on stand others; none stands between two
 --     aligned_is                       so each is some distances behind the first
---     first_whole, first_later         the first of all
+--     first_aligned                    the first of all
 use Prim.Native.Nat.{ℕ, zero, suc, ◌+◌, ◌-◌, ◌*◌, ◌/◌, ◌%◌, ◌^◌, ◌≤◌, ◌<◌}
 use native.Mathlib.Omega.{arith}
-use native.Mathlib.Nat.{add-mul, mul-lt-mul_of_pos_right, mul-pos, mod-lt, mod_self, mod-add-mod, mod-eq_of_lt, mul-mod_left, zero-mod, div-add-mod', div-le_self, mul-div_cancel, mod-mod_of_dvd, dvd_of_mod-eq-zero, one-mul, zero-mul, suc-mul}
+use native.Mathlib.Nat.{add-mul, mul-lt-mul_of_pos_right, mul-pos, mod-lt, zero-div, mod_self, mod-add-mod, mod-eq_of_lt, mul-mod_left, zero-mod, div-add-mod', div-le_self, mul-div_cancel, mod-mod_of_dvd, dvd_of_mod-eq-zero, one-mul, zero-mul, suc-mul}
 use mathlib.Core.Path.{◌≡◌, sym, ap, ◌∙◌}
 use mathlib.Core.Bool.{true, false}
 use lib.Arith.{digits_mod, mod-mul}
 use lib.Pow.{pow-add, pow_pos, pow_mono}
 use borrow.Author.Tests.{eq-eqb, ne_eqb, eqb-true}
+use Rattle.std.specs.Int.{div_ceil}
 use Rattle.search.proofs.Bools.{below_or_not, clash}
 use Rattle.frames.specs.declared.Area.{Area}
 use Rattle.rules.specs.Limits.{most_align_order}
@@ -108,7 +109,7 @@ module _ (a : Area) (align : ℕ) where
       (λ m. omega arith))
 
   -- ---- the first of all
-  pub first_whole : a.base.0 % 2 ^ align ≡ 0 → FirstAligned a align 0
+  first_whole : a.base.0 % 2 ^ align ≡ 0 → FirstAligned a align 0
   first_whole e =
       record {
         hit = eq-eqb (first_of 0 % 2 ^ align) 0 (ap (λ (x : ℕ). x % 2 ^ align) (omega (arith, zero-mul per)) ∙ e);
@@ -146,7 +147,7 @@ module _ (a : Area) (align : ℕ) where
         let d : up ≡ per_step - u = ap (λ (x : ℕ). x / per) e ∙ mul-div_cancel (per_step - u) {n = per} (pow_pos a.order_per_bit) in
         ap (λ (x : ℕ). x * per) d ∙ sym e
 
-    pub first_later : FirstAligned a align up
+    first_later : FirstAligned a align up
     first_later =
         let q = a.base.0 / 2 ^ align in
         let parts = div-add-mod' a.base.0 (2 ^ align) in
@@ -163,5 +164,23 @@ module _ (a : Area) (align : ℕ) where
               ne_eqb (first_of k % 2 ^ align) 0 (λ y. absurd (part (omega arith)));
         }
 
-    pub up_high : align ≤ most_align_order → up ≤ 2 ^ most_align_order
+    up_high : align ≤ most_align_order → up ≤ 2 ^ most_align_order
     up_high h = omega (arith, div-le_self (2 ^ align - past) per, pow_mono {i = align} {j = most_align_order} h)
+
+  -- the bit of the lowest multiple that is not below the area's first frame
+  pub first_aligned : align ≤ most_align_order → a.base.0 % per ≡ 0 → (r : ℕ) → r ≡ (div_ceil a.base.0 (2 ^ align) * 2 ^ align - a.base.0) / per → (r ≤ 2 ^ most_align_order) × FirstAligned a align r
+  first_aligned h begins r e =
+      let past = a.base.0 % 2 ^ align in
+      let parts = div-add-mod' a.base.0 (2 ^ align) in
+      let low : past < 2 ^ align = mod-lt a.base.0 (pow_pos align) in
+      below_or_not 0 past
+      (λ some.
+      let over : div_ceil a.base.0 (2 ^ align) ≡ a.base.0 / 2 ^ align + 1 = omega arith in
+      let next : div_ceil a.base.0 (2 ^ align) * 2 ^ align ≡ a.base.0 / 2 ^ align * 2 ^ align + 2 ^ align = ap (λ (x : ℕ). x * 2 ^ align) over ∙ add-mul (a.base.0 / 2 ^ align) 1 (2 ^ align) ∙ ap (λ (x : ℕ). a.base.0 / 2 ^ align * 2 ^ align + x) (one-mul (2 ^ align)) in
+      let is : r ≡ up begins (λ z. absurd (omega arith)) = e ∙ ap (λ (x : ℕ). x / per) (omega (arith, next, parts, low)) in
+      rw is (up_high begins (λ z. absurd (omega arith)) h, first_later begins (λ z. absurd (omega arith))))
+      (λ none.
+      let over : div_ceil a.base.0 (2 ^ align) ≡ a.base.0 / 2 ^ align = omega arith in
+      let next : div_ceil a.base.0 (2 ^ align) * 2 ^ align ≡ a.base.0 = ap (λ (x : ℕ). x * 2 ^ align) over ∙ omega (arith, parts) in
+      let is : r ≡ 0 = e ∙ ap (λ (x : ℕ). (x - a.base.0) / per) next ∙ ap (λ (x : ℕ). x / per) (omega arith) ∙ zero-div per in
+      rw is (omega arith, first_whole (omega arith)))

@@ -1,7 +1,7 @@
 -- What a device's store and read do, from what their checks found. Assumes nothing.
 use Prim.Native.Nat.{ℕ, ◌-◌, ◌≤◌, ◌<◌}
 use native.Mathlib.Omega.{arith}
-use mathlib.Core.Path.{◌≡◌, refl, sym, ap, subst, ◌∙◌}
+use mathlib.Core.Path.{◌≡◌, sym, ap, subst, ◌∙◌}
 use mathlib.Core.Bool.{true, false, ◌||◌}
 use lib.Dec.{leb, ltb}
 use lib.ListN.{length, set}
@@ -16,11 +16,9 @@ use Rattle.frames.specs.Tables.{Tables, tables, mark_at, word_at, set_page}
 use Rattle.rules.specs.declared.Record.{Record}
 use Rattle.rules.specs.Record.{place_of, end_frame}
 use Rattle.rules.specs.Shape.{shape_right}
-use Rattle.rules.specs.Outcomes.{outcome, refuse, Passed}
-use Rattle.device_calls.specs.Steps.Refusals.{first_number}
+use Rattle.rules.specs.Outcomes.{outcome, refuse, First, Passed}
 use Rattle.rules.specs.DeviceCalls.{bad_device, outside_memory, device_checks, device_store, device_read}
-use Rattle.rules.proofs.Checks.{checked_passed}
-use Rattle.device_calls.proofs.RefusalFacts.{refused_by, passed_by}
+use Rattle.rules.proofs.Checks.{checked_first, checked_passed}
 use Rattle.rules.proofs.Shapes.{shape_known}
 
 -- a frame of memory
@@ -61,18 +59,16 @@ module _ (m : Record) (f : Frame) (device : ℕ) (t : Tables) where
     pub passed : Passed (device_checks m f device t)
     pub has : Tabled
 
-  pub granted_known : {n : ℕ} → n ≡ first_number (device_checks m f device t) → n ≡ 0 → Granted
-  granted_known e z =
-      let p = passed_by (device_checks m f device t) refl e z in
-      record { passed = p; has = tabled (not_flips (shape_right m t) p.0) p.1.0 }
+  pub granted_known : Passed (device_checks m f device t) → Granted
+  granted_known p = record { passed = p; has = tabled (not_flips (shape_right m t) p.0) p.1.0 }
 
-  pub store_refused : (word : ℕ) {n : ℕ} → n ≡ first_number (device_checks m f device t) → (n ≡ 0 → ⊥) → device_store m f word device t ≡ refuse m t n
+  pub store_refused : (word : ℕ) {n : ℕ} → First (device_checks m f device t) n → device_store m f word device t ≡ refuse m t n
   unfolding device_store
-  store_refused word e z = refused_by (device_checks m f device t) m t _ e z
+  store_refused word e = checked_first m t _ e
 
-  pub read_refused : {n : ℕ} → n ≡ first_number (device_checks m f device t) → (n ≡ 0 → ⊥) → device_read m f device t ≡ refuse m t n
+  pub read_refused : {n : ℕ} → First (device_checks m f device t) n → device_read m f device t ≡ refuse m t n
   unfolding device_read
-  read_refused e z = refused_by (device_checks m f device t) m t _ e z
+  read_refused e = checked_first m t _ e
 
   -- it is done, at the frame's place
   module _ (p : Place) (e : p ≡ place_of m f) (g : Granted) where

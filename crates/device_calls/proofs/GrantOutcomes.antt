@@ -1,28 +1,27 @@
 -- What a grant does, from what its checks and its search found. Assumes nothing.
---     run_marked, taken                 the tables after a run is taken
+--     run_placed, taken                 the run's place; the tables after it is taken
 --     run_known                         what is known of a run that lies in an area
---     grant_refused, request_passed     the first checks refuse; they pass
---     none_found, run_fits              no run can be granted; one can, and it lies in the area
+--     grant_refused                     the first checks refuse
+--     run_is, none_found, run_fits      one can be granted, the one chosen; none can; it lies in the area
 --     nowhere, granted                  the run's pages have nowhere to go; they have
-use Prim.Native.Nat.{ℕ, ◌+◌, ◌-◌, ◌*◌, ◌≤◌, ◌<◌}
+use Prim.Native.Nat.{ℕ, ◌+◌, ◌-◌, ◌≤◌, ◌<◌}
 use native.Mathlib.Omega.{arith}
-use native.Mathlib.Nat.{mul_comm}
-use native.Mathlib.Numerals.{add-one}
-use mathlib.Core.Path.{◌≡◌, refl, sym, ap, ap₂, subst, ◌∙◌}
+use mathlib.Core.Path.{◌≡◌, sym, ap, ap₂, subst, ◌∙◌}
 use mathlib.Core.Bool.{Bool, true, false, ◌||◌}
-use mathlib.Core.List.{List, []}
+use mathlib.Core.List.{List}
 use lib.Dec.{leb, ltb, eqb}
-use lib.ListN.{length, set, take}
-use borrow.Author.Tests.{eqb-true, leb-true, leb-false, ltb-false, eqb-false, le-leb, lt-leb, lt-ltb, le-ltb}
+use Rattle.std.specs.Prelude.{Some, None}
+use lib.ListN.{length, take}
+use borrow.Author.Tests.{eqb-true, ltb-true, leb-true, leb-false, ltb-false, eqb-false, le-leb, lt-leb, lt-ltb, le-ltb}
 use Rattle.search.specs.Search.{how_many}
-use Rattle.search.proofs.Bools.{below_or_not, or_left, or_right, not_flips}
+use Rattle.search.proofs.Bools.{by_cases, below_or_not, or_left, or_right, not_flips}
 use Rattle.answer.specs.Answers.{done}
 use Rattle.bitmap.specs.Bits.{set_bits}
 use Rattle.frames.specs.declared.Area.{Area}
 use Rattle.frames.specs.declared.Bit.{Bit}
 use Rattle.frames.specs.declared.Frame.{Frame}
 use Rattle.frames.specs.declared.Place.{Place}
-use Rattle.frames.specs.Units.{most_number}
+use Rattle.frames.specs.Units.{place, most_number}
 use Rattle.frames.specs.Marks.{has_kind, movable}
 use Rattle.frames.specs.Areas.{bit_count, bits_for, frame_of_bit}
 use Rattle.frames.specs.Scans.{marked}
@@ -34,7 +33,7 @@ use Rattle.rules.specs.Limits.{most_frames, most_block_order, most_align_order, 
 use Rattle.rules.specs.Shape.{shape_right}
 use Rattle.rules.specs.Outcomes.{outcome, refuse, First, here, there, Passed}
 use Rattle.rules.specs.Targets.{is_target, targets}
-use Rattle.rules.specs.DeviceCalls.{bad_device, is_unknown, bitmap_of, place_of_bit, is_candidate, is_grantable, chosen, movers, move_out, mark_run, take_run, grant_checks, grant}
+use Rattle.rules.specs.DeviceCalls.{bad_device, is_unknown, bitmap_of, place_of_bit, chosen, movers, move_out, mark_run, take_run, grant_checks, grant}
 use Rattle.rules.proofs.Checks.{checked_first, checked_stop, checked_pass, checked_end}
 use Rattle.rules.proofs.Shapes.{shape_known}
 use Rattle.rules.proofs.AreaRight.{area_known}
@@ -43,37 +42,33 @@ use Rattle.rules.proofs.Promises.Grants.{first_known}
 use Rattle.rules.proofs.Promises.Shapes.{shape_is_right}
 use Rattle.rules.proofs.Ledger.GrantedRun.{run_inside}
 use Rattle.frames.proofs.AreaFacts.{holds_yes}
-use Rattle.device_calls.specs.Steps.Refusals.{first_number}
-use Rattle.device_calls.specs.Steps.DeviceSteps.{SearchFits, LeavesArea, RunFits}
-use Rattle.device_calls.proofs.RefusalFacts.{refused_first, passed_by}
+use Rattle.device_calls.specs.Steps.DeviceSteps.{SearchFits, LeavesArea, RunFits, run_for}
 use Rattle.device_calls.proofs.Alignment.{lower_multiple}
-use Rattle.device_calls.proofs.MoveFacts.{out_others}
+use Rattle.device_calls.proofs.MoveFacts.{out_keeps}
 
 -- ---- the tables after a run is taken
-pub run_marked : (ms ws : List ℕ) {ms₁ ws₁ ms₂ ws₂ : List ℕ} (p : Place) (count : ℕ) → ms₁ ≡ set ms p.0 (count * 8 + 4) → ws₁ ≡ set ws p.0 0 →
-    ms₂ ≡ fill ms₁ (p.0 + 1) (count - 1) 5 → ws₂ ≡ fill ws₁ (p.0 + 1) (count - 1) 0 → tables ms₂ ws₂ [] [] ≡ mark_run (tables ms ws [] []) p count
-run_marked ms ws p count a b c d = rw (c, d, a, b, add-one p.0, mul_comm count 8)
-
 module _ (m : Record) (t : Tables) (i count : ℕ) (j : Bit) where
   abbrev first : Place
   first = place_of_bit m i j
 
-  -- tables with another bitmap and other owners
-  abbrev beside : List ℕ → List ℕ → Tables → Tables
-  beside bs os x = with_owners (with_bitmap x bs) os
+  -- the place of a bit of the area, as the code comes to it
+  pub run_placed : {a : Area} {f : Frame} {p : Place} → a ≡ area_at m i → f ≡ frame_of_bit a j → p ≡ place (f.0 - m.memory.base.0) → p ≡ first
+  run_placed e f p = p ∙ ap (λ (x : Frame). place (x.0 - m.memory.base.0)) (f ∙ ap (λ (x : Area). frame_of_bit x j) e)
 
-  pub taken : (device : ℕ) {ms₁ ws₁ ms₂ ws₂ bs os : List ℕ} {p : Place} {start n : ℕ} → p ≡ first → tables ms₁ ws₁ [] [] ≡ move_out m (tables t.marks t.words [] []) i p count →
-      tables ms₂ ws₂ [] [] ≡ mark_run (tables ms₁ ws₁ [] []) p count → start ≡ bitmap_of m i → n ≡ bits_for (area_at m i) count → bs ≡ set_bits t.bitmap start j.0 n →
-      os ≡ fill t.owners p.0 count device → tables ms₂ ws₂ bs os ≡ take_run m t i count j device
+  pub taken : (device : ℕ) {u v : Tables} {bs os : List ℕ} {p : Place} {start n : ℕ} → p ≡ first → u ≡ move_out m t i p count → v ≡ mark_run u p count →
+      start ≡ bitmap_of m i → n ≡ bits_for (area_at m i) count → bs ≡ set_bits v.bitmap start j.0 n → os ≡ fill v.owners p.0 count device → tables v.marks v.words bs os ≡ take_run m t i count j device
   unfolding take_run
-  taken device {ms₁} {ws₁} {ms₂} {ws₂} {bs} {os} {p} {start} {n} e out marks st ns bits owners =
-      let moved : beside t.bitmap t.owners (tables ms₁ ws₁ [] []) ≡ move_out m t i first count =
-      ap (beside t.bitmap t.owners) (out ∙ ap (λ (y : Place). move_out m (tables t.marks t.words [] []) i y count) e) ∙
-      out_others m i t.bitmap t.owners (tables t.marks t.words [] []) first count in
-      ap (beside bs os) (marks ∙ ap (λ (y : Place). mark_run (tables ms₁ ws₁ [] []) y count) e) ∙
-      ap (λ (x : Tables). beside bs os (mark_run x first count)) moved ∙
-      ap₂ (λ (x y : List ℕ). beside x y (mark_run (move_out m t i first count) first count)) (bits ∙ ap₂ (λ (x y : ℕ). set_bits t.bitmap x j.0 y) st ns)
-      (owners ∙ ap (λ (y : Place). fill t.owners y.0 count device) e)
+  taken device {u} {v} {bs} {os} {p} {start} {n} e out marks st ns bits owners =
+      let kept = out_keeps m i t p count in
+      let left : v ≡ mark_run (move_out m t i first count) first count =
+      marks ∙ ap (λ (x : Tables). mark_run x p count) out ∙ ap (λ (y : Place). mark_run (move_out m t i y count) y count) e
+      in
+      let bitmap : v.bitmap ≡ t.bitmap = ap (λ (x : Tables). x.bitmap) (marks ∙ ap (λ (x : Tables). mark_run x p count) out) ∙ kept.bitmap in
+      let held : v.owners ≡ t.owners = ap (λ (x : Tables). x.owners) (marks ∙ ap (λ (x : Tables). mark_run x p count) out) ∙ kept.owners in
+      ap (λ (x : Tables). tables x.marks x.words bs os) left ∙
+      ap₂ (λ (x y : List ℕ). with_owners (with_bitmap (mark_run (move_out m t i first count) first count) x) y)
+      (bits ∙ ap (λ (x : List ℕ). set_bits x start j.0 n) bitmap ∙ ap₂ (λ (x y : ℕ). set_bits t.bitmap x j.0 y) st ns)
+      (owners ∙ ap (λ (x : List ℕ). fill x p.0 count device) held ∙ ap (λ (y : Place). fill t.owners y.0 count device) e)
 
   targets_found : {a : Area} → a ≡ area_at m i → length t.marks ≡ m.memory.frames → how_many (is_free_outside t.marks m.memory.base a) 0 (length t.marks) ≡ targets m t i
   unfolding targets is_target is_free_outside
@@ -122,12 +117,9 @@ module _ (m : Record) (i count align device : ℕ) (t : Tables) where
   widened (there e (here f)) = there e (here f)
   widened {n = n} (there e (there _ none)) = elim none [ ]
 
-  pub grant_refused : {n : ℕ} → n ≡ first_number (take 2 (grant_checks m i count align device t)) → (n ≡ 0 → ⊥) → grant m i count align device t ≡ refuse m t n
+  pub grant_refused : {n : ℕ} → First (take 2 (grant_checks m i count align device t)) n → grant m i count align device t ≡ refuse m t n
   unfolding grant
-  grant_refused e z = checked_first m t _ (widened (refused_first e z))
-
-  pub request_passed : {n : ℕ} → n ≡ first_number (take 2 (grant_checks m i count align device t)) → n ≡ 0 → Passed (take 2 (grant_checks m i count align device t))
-  request_passed e z = passed_by (take 2 (grant_checks m i count align device t)) refl e z
+  grant_refused e = checked_first m t _ (widened e)
 
   -- they pass
   module _ (passed : Passed (take 2 (grant_checks m i count align device t))) where
@@ -170,21 +162,35 @@ module _ (m : Record) (i count align device : ℕ) (t : Tables) where
           words_high = omega (arith, first_word_exact m t shaped i (let h : i ≤ m.memory.declared = omega (arith, known) in h));
         }
 
-    -- ---- the search, which looks at no words
-    module _ {r : Bit} (e : r ≡ chosen m (tables t.marks [] t.bitmap []) i count align) where
-      chosen_is : chosen m t i count align ≡ r
-      unfolding chosen is_grantable is_candidate
-      chosen_is = sym e
+    -- ---- the search
+    abbrev all : ℕ
+    all = bit_count (area_at m i)
 
-      abbrev all : ℕ
-      all = bit_count (area_at m i)
+    -- where it finds a bit, that is the one chosen
+    pub run_is : {r : Bit} → Some r ≡ run_for m t i count align → (r ≡ chosen m t i count align) × (r.0 < all)
+    run_is {r} e =
+        let j = chosen m t i count align in
+        by_cases (ltb j.0 all)
+        (λ y.
+        let same : Some r ≡ Some j = e ∙ rw y in
+        let is : r ≡ j = cc in
+        (is, subst (λ (x : Bit). x.0 < all) (sym is) (ltb-true j.0 all y)))
+        (λ n. let same : Some r ≡ None = e ∙ rw n in cc)
+
+    pub none_found : None ≡ run_for m t i count align → grant m i count align device t ≡ refuse m t 7
+    unfolding grant
+    none_found e =
+        let j = chosen m t i count align in
+        below_or_not j.0 all
+        (λ h. let same : None ≡ Some j = e ∙ rw (lt-ltb j.0 all h) in cc)
+        (λ h. checked_pass m t _ _ _ passed.0 ∙ checked_pass m t _ _ _ passed.1.0 ∙ checked_stop m t _ _ _ (le-leb all j.0 h))
+
+    module _ {r : Bit} (e : r ≡ chosen m t i count align) where
+      chosen_is : chosen m t i count align ≡ r
+      chosen_is = sym e
 
       none_left : leb all (chosen m t i count align).0 ≡ leb all r.0
       none_left = ap (λ (x : Bit). leb all x.0) chosen_is
-
-      pub none_found : all ≤ r.0 → grant m i count align device t ≡ refuse m t 7
-      unfolding grant
-      none_found h = checked_pass m t _ _ _ passed.0 ∙ checked_pass m t _ _ _ passed.1.0 ∙ checked_stop m t _ _ _ (none_left ∙ le-leb all r.0 h)
 
       module _ (found : r.0 < all) where
         has_room_left : r.0 + bits_for (area_at m i) count ≤ all
@@ -215,11 +221,11 @@ module _ (m : Record) (i count align device : ℕ) (t : Tables) where
               checked_pass m t _ _ _ passed.0 ∙ checked_pass m t _ _ _ passed.1.0 ∙ checked_pass m t _ _ _ (none_left ∙ lt-leb all r.0 found) ∙
               checked_stop m t _ _ _ (too_few ∙ lt-ltb (targets m t i) n (leb-false n (targets m t i) (sym is_enough ∙ f)))
 
-          pub granted : {f : Frame} {u : Tables} → h ≡ true → f ≡ frame_of_bit (area_at m i) r → u ≡ take_run m t i count r device → grant m i count align device t ≡ outcome m (done f.0 n) u
+          pub granted : {f : Frame} → h ≡ true → f ≡ frame_of_bit (area_at m i) r → grant m i count align device t ≡ outcome m (done f.0 n) (take_run m t i count r device)
           unfolding grant
-          granted {f} {u} y fe ue =
+          granted {f} y fe =
               checked_pass m t _ _ _ passed.0 ∙ checked_pass m t _ _ _ passed.1.0 ∙ checked_pass m t _ _ _ (none_left ∙ lt-leb all r.0 found) ∙
               checked_pass m t _ _ _ (too_few ∙ le-ltb (targets m t i) n (leb-true n (targets m t i) (sym is_enough ∙ y))) ∙ checked_end m t _ ∙
               ap (λ (x : Bit). outcome m (done (frame_of_bit (area_at m i) x).0 (movers t (place_of_bit m i x) count)) (take_run m t i count x device)) chosen_is ∙
               ap (λ (x : Frame). outcome m (done x.0 (movers t (place_of_bit m i r) count)) (take_run m t i count r device)) (sym fe) ∙
-              ap₂ (λ (k : ℕ) (x : Tables). outcome m (done f.0 k) x) (sym is_movers) (sym ue)
+              ap (λ (k : ℕ). outcome m (done f.0 k) (take_run m t i count r device)) (sym is_movers)

@@ -1,16 +1,18 @@
 -- The search for the lowest bit at which a run can be granted. Assumes nothing.
+--     some_bits           some frames take some bits
 --     Looking             what holds at the head of the loop: the bit is aligned, and none below it will do
---     look_start, look_hit, look_skip, look_end, look_none
---     found_chosen        what it finds is what the rules choose
-use Prim.Native.Nat.{ℕ, ◌+◌, ◌-◌, ◌*◌, ◌^◌, ◌≤◌, ◌<◌}
+--     look_hit, look_skip, look_end, look_none
+--     run_found, run_none    what it finds is what the rules choose; there is none
+use Prim.Native.Nat.{ℕ, ◌+◌, ◌-◌, ◌*◌, ◌≤◌, ◌<◌}
 use native.Mathlib.Omega.{arith}
-use native.Mathlib.Nat.{add-mul, one-mul, mul-le-mul, div-mul-le_self}
-use mathlib.Core.Path.{◌≡◌, refl, sym, ap, ap₂, ◌∙◌}
+use native.Mathlib.Nat.{add-mul, one-mul, div-mul-le_self}
+use mathlib.Core.Path.{◌≡◌, refl, sym, ap, ap₂, subst, ◌∙◌}
 use mathlib.Core.Bool.{Bool, true, false, ◌&&◌}
 use mathlib.Core.List.{List}
-use lib.Dec.{leb}
-use lib.Pow.{pow_pos, pow_mono}
-use borrow.Author.Tests.{le-leb, lt-leb}
+use lib.Dec.{leb, ltb}
+use Rattle.std.specs.Prelude.{Option, Some, None, if◌then◌else◌}
+use lib.Pow.{pow_pos}
+use borrow.Author.Tests.{le-leb, lt-leb, lt-ltb, le-ltb}
 use Rattle.search.specs.Search.{lowest, every}
 use Rattle.search.proofs.Bools.{by_cases, below_or_not}
 use Rattle.search.proofs.Lowest.{found_is, found_none}
@@ -18,17 +20,16 @@ use Rattle.bitmap.specs.Bits.{is_clear}
 use Rattle.frames.specs.declared.Area.{Area}
 use Rattle.frames.specs.declared.Bit.{Bit}
 use Rattle.frames.specs.declared.Frame.{Frame}
-use Rattle.frames.specs.Units.{bit, most_number}
+use Rattle.frames.specs.Units.{bit}
 use Rattle.frames.specs.Marks.{can_leave}
 use Rattle.frames.specs.Areas.{per_bit, ceiling, bit_count, bits_for, frame_of_bit}
 use Rattle.frames.specs.Scans.{marked}
 use Rattle.frames.specs.Tables.{Tables}
 use Rattle.rules.specs.declared.Record.{Record}
 use Rattle.rules.specs.Record.{area_at}
-use Rattle.rules.specs.Limits.{most_frames, most_end, most_block_order}
 use Rattle.rules.specs.DeviceCalls.{bitmap_of, is_candidate, is_grantable, chosen}
 use Rattle.rules.proofs.Divisions.{ceiling_some}
-use Rattle.device_calls.specs.Steps.DeviceSteps.{is_aligned, FirstAligned}
+use Rattle.device_calls.specs.Steps.DeviceSteps.{is_aligned, run_for}
 use Rattle.device_calls.proofs.Alignment.{Steps, aligned_times, aligned_between}
 
 -- four tests in a row
@@ -42,11 +43,9 @@ second_fails false l c v e = refl
 last_two : (a l c v : Bool) → a ≡ true → l ≡ true → (a && l && c && v) ≡ (c && v)
 last_two a l c v e f = rw (e, f)
 
--- the frames of a bit are numbers of the machine
-pub bit_fits : (a : Area) (j : ℕ) → a.order_per_bit ≤ most_block_order → a.base.0 ≤ most_end → j ≤ most_frames → (frame_of_bit a (bit j)).0 ≤ most_number
-bit_fits a j h b l =
-    let p : j * per_bit a ≤ most_frames * 2 ^ most_block_order = mul-le-mul {n₁ = j} {n₂ = most_frames} l (pow_mono {i = a.order_per_bit} {j = most_block_order} h) in
-    omega arith
+-- some frames take some bits
+pub some_bits : (a : Area) (count : ℕ) → 0 < count → 0 < bits_for a count
+some_bits a count h = ceiling_some count (per_bit a) (pow_pos a.order_per_bit) h
 
 -- of an area, and its bitmap's first word
 module _ (marks bitmap : List ℕ) (base : Frame) (a : Area) (start count align : ℕ) where
@@ -82,9 +81,6 @@ module _ (marks bitmap : List ℕ) (base : Frame) (a : Area) (start count align 
     pub aligned : is_aligned a align j ≡ true
     pub none : (k : ℕ) → k < j → test k ≡ false
 
-  pub look_start : (j : ℕ) → FirstAligned a align j → Looking j
-  look_start j f = record { aligned = f.hit; none = λ k h. not_aligned k (f.miss k h) }
-
   module _ (n : ℕ) (e : n ≡ bits) where
     abbrev free : ℕ → Bool
     free j = every (is_clear bitmap start) j n && every (marked can_leave marks) ((frame_of_bit a (bit j)).0 - base.0) count
@@ -94,7 +90,7 @@ module _ (marks bitmap : List ℕ) (base : Frame) (a : Area) (start count align 
 
     pub look_hit : (j : ℕ) → 0 < count → Looking j → j + n ≤ all → free j ≡ true → bit j ≡ found
     look_hit j c l h f =
-        let p : 0 < bits = ceiling_some count (per_bit a) (pow_pos a.order_per_bit) c in
+        let p : 0 < bits = some_bits a count c in
         ap bit (sym (found_is test all j (omega arith) (here_is j l.aligned (omega arith) ∙ sym (free_is j) ∙ f) l.none))
 
     -- the bits that were ruled out, and those from there on to the next aligned one
@@ -122,7 +118,21 @@ module _ (marks bitmap : List ℕ) (base : Frame) (a : Area) (start count align 
         ap bit (sym (found_none test all (λ k u. below_or_not k j (λ v. l.none k v) (λ v. out_of_room k (omega arith)))))
 
 -- what is found is what the rules choose
-pub found_chosen : (m : Record) (t : Tables) (i count align : ℕ) {a : Area} {start : ℕ} {r : Bit} → a ≡ area_at m i → start ≡ bitmap_of m i →
-    r ≡ found t.marks t.bitmap m.memory.base a start count align → r ≡ chosen m t i count align
+found_chosen : (m : Record) (t : Tables) (i count align : ℕ) {a : Area} {start : ℕ} {r : Bit} → a ≡ area_at m i → start ≡ bitmap_of m i →
+    r ≡ found t.marks t.bitmap m.memory.base a start count align → chosen m t i count align ≡ r
 unfolding chosen is_grantable is_candidate
-found_chosen m t i count align e s f = f ∙ ap₂ (λ (x : Area) (y : ℕ). found t.marks t.bitmap m.memory.base x y count align) e s
+found_chosen m t i count align e s f = sym (f ∙ ap₂ (λ (x : Area) (y : ℕ). found t.marks t.bitmap m.memory.base x y count align) e s)
+
+-- which is below the area's bits, or is none
+module _ (m : Record) (t : Tables) (i count align : ℕ) {a : Area} {start : ℕ} (e : a ≡ area_at m i) (s : start ≡ bitmap_of m i) {r : Bit} (f : r ≡ found t.marks t.bitmap m.memory.base a start count align) where
+  abbrev run_at : Bit → Option Bit
+  run_at j = if ltb j.0 (bit_count (area_at m i)) then Some j else None
+
+  is_run : run_for m t i count align ≡ run_at r
+  is_run = ap run_at (found_chosen m t i count align e s f)
+
+  pub run_found : r.0 < bit_count a → Some r ≡ run_for m t i count align
+  run_found h = sym (is_run ∙ rw (lt-ltb r.0 (bit_count (area_at m i)) (subst (λ (x : Area). r.0 < bit_count x) e h)))
+
+  pub run_none : bit_count a ≤ r.0 → None ≡ run_for m t i count align
+  run_none h = sym (is_run ∙ rw (le-ltb r.0 (bit_count (area_at m i)) (subst (λ (x : Area). bit_count x ≤ r.0) e h)))

@@ -3,7 +3,6 @@ pub mod DeviceOutcomes
 pub mod GrantOutcomes
 pub mod GrantSearch
 pub mod MoveFacts
-pub mod RefusalFacts
 pub mod ReleaseOutcomes
 pub mod Starts
 pub mod Tries

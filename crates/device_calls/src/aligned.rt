@@ -1,21 +1,12 @@
-// Which bits of an area have a multiple of 2^align as their first frame: a run may begin at those alone.
-ghost use Rattle.std.specs.Prelude.{◌≡◌, ◌-◌, ◌%◌, ◌^◌, ◌≤◌};
+// Which bits of an area have a multiple of 2^align as their first frame: a run may begin at those alone. They stand 2^order bits apart, where
+// order is align less the area's order of pages per bit.
+ghost use Rattle.std.specs.Prelude.{◌≡◌, ◌%◌, ◌^◌, ◌≤◌};
 ghost use Rattle.frames.specs.Areas.{per_bit};
 ghost use Rattle.rules.specs.Limits.{most_end, most_block_order, most_align_order};
 ghost use Rattle.device_calls.specs.Steps.DeviceSteps.{FirstAligned, Spreads, Starts};
 
 use crate::units::{bit_of_frame, block_of};
 use frames::{Area, Bit, Frame};
-
-// They stand 2^order bits apart.
-pub(crate) fn step_order(a: Area, align: u64) -> u64
-    ensures { result ≡ align - a.order_per_bit }
-{
-    if align <= a.order_per_bit {
-        return 0;
-    }
-    align - a.order_per_bit
-}
 
 // The lowest bit whose first frame is a multiple of 2^align, in the area or past it. The area's own first frame is a multiple of its
 // pages per bit, so where it is none of 2^align, the distance up to the next is whole bits.
@@ -24,11 +15,7 @@ pub(crate) fn first_aligned(a: Area, align: u64) -> Bit
     ensures { (result.0 ≤ 2 ^ most_align_order) × FirstAligned a align result.0 }
 {
     let block = block_of(align);
-    let past = a.base.0 % block;
-    if past == 0 {
-        return Bit(0);
-    }
-    let next = Frame(a.base.0 + (block - past));
+    let next = Frame(a.base.0.div_ceil(block) * block);
     bit_of_frame(a, next)
 }
 
@@ -36,25 +23,15 @@ pub(crate) fn first_aligned(a: Area, align: u64) -> Bit
 fn spread(order: u64) -> u64
     ensures { Spreads order result }
 {
-    if order == 0 {
-        return 0xffff_ffff_ffff_ffff;
+    match order {
+        0 => 0xffff_ffff_ffff_ffff,
+        1 => 0x5555_5555_5555_5555,
+        2 => 0x1111_1111_1111_1111,
+        3 => 0x0101_0101_0101_0101,
+        4 => 0x0001_0001_0001_0001,
+        5 => 0x0000_0001_0000_0001,
+        _ => 1,
     }
-    if order == 1 {
-        return 0x5555_5555_5555_5555;
-    }
-    if order == 2 {
-        return 0x1111_1111_1111_1111;
-    }
-    if order == 3 {
-        return 0x0101_0101_0101_0101;
-    }
-    if order == 4 {
-        return 0x0001_0001_0001_0001;
-    }
-    if order == 5 {
-        return 0x0000_0001_0000_0001;
-    }
-    1
 }
 
 // A word that has, set, the bits of each bitmap word at which a run may begin: those of the first one that is aligned, and of each 2^order on.

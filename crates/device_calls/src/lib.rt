@@ -1,16 +1,14 @@
 // The device calls: grant, release, device store and device read.
 //
-// Each takes any record, as its memory and its areas' numbers, any other numbers and any tables, and checks the shape first. A refused
-// call has changed nothing.
+// Each takes any record, any other numbers and any tables, and checks the shape first. A refused call has changed nothing.
 #![tactic(auto)]
 
-ghost use Rattle.std.specs.Prelude.{◌≡◌, take};
-ghost use Rattle.frames.specs.Tables.{tables};
-ghost use Rattle.frames.specs.Lent.{slice_of};
+ghost use Rattle.std.specs.Prelude.{◌≡◌, ◌<◌, ◌^◌, take};
+ghost use Rattle.frames.specs.Lent.{tables_in, SameSlices};
 ghost use Rattle.rules.specs.Outcomes.{Passed};
 ghost use Rattle.rules.specs.DeviceCalls.{device_store, device_read, free_run, release, take_run, grant_checks, grant};
-ghost use Rattle.rules.specs.Does.{record_with, given, Answers};
-ghost use Rattle.device_calls.specs.Steps.DeviceSteps.{RangeFits, RunFits};
+ghost use Rattle.rules.specs.Does.{record_in, Answers};
+ghost use Rattle.device_calls.specs.Steps.DeviceSteps.{RangeFits, RunFits, Chooses};
 
 mod aligned;
 mod checks;
@@ -18,206 +16,174 @@ mod moves;
 mod runs;
 mod units;
 
-use answer::{Answer, refusal};
-use bitmap::{clear_run, set_run};
-use checks::{device_refusal, release_refusal, request_refusal};
-use frames::{
-    Bit, Frame, area_at, count_movable, fill_places, fill_words, has_free_outside, place_of,
-};
+use answer::{Numbers, Refusal};
+use bitmap::put_run;
+use checks::{check_device, check_grant, check_release};
+use frames::{Bit, Frame, LentTables, area_at, count_movable, fill, has_free_outside, place_of};
 use moves::{mark_run, move_out};
-use rules::Memory;
+use rules::LentRecord;
 use runs::find_run;
 use units::{bit_of_frame, bitmap_start, frame_of_bit};
 
+// What a grant asks for: an area, a count of frames, the order that its first frame is a multiple of, and the device that gets them.
+#[derive(Clone, Copy)]
+pub(crate) struct GrantRequest {
+    pub(crate) area: u64,
+    pub(crate) count: u64,
+    pub(crate) align: u64,
+    pub(crate) device: u64,
+}
+
+// The grant that a release names: its area, its first frame, its count, and the device that owns it.
+#[derive(Clone, Copy)]
+pub(crate) struct ReleaseRequest {
+    pub(crate) area: u64,
+    pub(crate) frame: Frame,
+    pub(crate) count: u64,
+    pub(crate) device: u64,
+}
+
+// The run that a grant takes: its bit, its first frame, and how many movable pages go out of it.
+#[derive(Clone, Copy)]
+pub(crate) struct ChosenRun {
+    pub(crate) run: Bit,
+    pub(crate) first: Frame,
+    pub(crate) moved: u64,
+}
+
 // The word becomes that of a frame that the device owns.
 pub fn device_store(
-    memory: Memory,
-    areas: &[u64],
-    marks: &[u32],
-    words: &mut [u64],
-    bitmap: &[u64],
-    owners: &[u32],
+    lent: LentRecord,
+    tables: &mut LentTables,
     frame: Frame,
     word: u64,
     device: u64,
-) -> Answer
-    ensures { Answers (λ m. device_store m frame word device) memory areas result marks (slice_of words) bitmap owners }
+) -> Result<Numbers, Refusal>
+    ensures { Answers (λ m. device_store m frame word device) lent.entry result tables.old tables.new }
 {
-    let number = device_refusal(memory, areas, marks, words, bitmap, owners, frame, device);
-    if number != refusal::NONE {
-        return Answer::refused(number);
-    }
-    let page = place_of(memory.base, frame);
-    let at = page.0;
-    words[at] = word;
-    Answer::done(0, 0)
+    check_device(lent, tables, frame, device)?;
+    let page = place_of(lent.memory.base, frame);
+    tables.words[page.0] = word;
+    Ok(Numbers::NONE)
 }
 
 // The word of a frame that the device owns.
 pub fn device_read(
-    memory: Memory,
-    areas: &[u64],
-    marks: &[u32],
-    words: &[u64],
-    bitmap: &[u64],
-    owners: &[u32],
+    lent: LentRecord,
+    tables: &LentTables,
     frame: Frame,
     device: u64,
-) -> Answer
-    ensures { Answers (λ m. device_read m frame device) memory areas result marks words bitmap owners }
+) -> Result<Numbers, Refusal>
+    ensures { Answers (λ m. device_read m frame device) lent.entry result tables.now tables.now }
 {
-    let number = device_refusal(memory, areas, marks, words, bitmap, owners, frame, device);
-    if number != refusal::NONE {
-        return Answer::refused(number);
-    }
-    let page = place_of(memory.base, frame);
-    let at = page.0;
-    Answer::done(words[at], 0)
+    check_device(lent, tables, frame, device)?;
+    let page = place_of(lent.memory.base, frame);
+    Ok(Numbers {
+        first: tables.words[page.0],
+        second: 0,
+    })
 }
 
 // The run's marks and words become 0, its bits clear, and no device owns its frames.
-fn free_run(
-    memory: Memory,
-    areas: &[u64],
-    marks: &mut [u32],
-    words: &mut [u64],
-    bitmap: &mut [u64],
-    owners: &mut [u32],
-    area: u64,
-    frame: Frame,
-    count: u64,
-)
-    requires { RangeFits (record_with memory areas.now) (tables marks.old words.old bitmap.old owners.old) area frame count }
-    ensures { tables marks.new words.new bitmap.new owners.new ≡ free_run (given memory areas) (tables marks.old words.old bitmap.old owners.old) area frame count }
+fn free_run(lent: LentRecord, tables: &mut LentTables, release: ReleaseRequest)
+    requires { RangeFits (record_in lent) (tables_in tables.old) release.area release.frame release.count }
+    ensures same { SameSlices tables.old tables.new }
+    ensures freed { tables_in tables.new ≡ free_run (record_in lent.entry) (tables_in tables.old) release.area release.frame release.count }
 {
-    let a = area_at(areas, area as usize);
-    let start = bitmap_start(areas, area);
-    let page = place_of(memory.base, frame);
-    let first = bit_of_frame(a, frame);
+    let count = release.count;
+    let a = area_at(lent.areas, release.area as usize);
+    let start = bitmap_start(lent.areas, release.area);
+    let page = place_of(lent.memory.base, release.frame);
+    let first = bit_of_frame(a, release.frame);
     let bits = a.bits_for(count) as usize;
-    fill_places(marks, page, count, 0);
-    fill_words(words, page, count, 0);
-    clear_run(bitmap, start, first.0, bits);
-    fill_places(owners, page, count, 0);
+    fill(tables.marks, page.0, count, 0);
+    fill(tables.words, page.0, count, 0);
+    put_run(tables.bitmap, start, first.0, bits, false);
+    fill(tables.owners, page.0, count, 0);
 }
 
 // A grant ends, by its owner: its frames are free, and its bits clear.
 pub fn release(
-    memory: Memory,
-    areas: &[u64],
-    marks: &mut [u32],
-    words: &mut [u64],
-    bitmap: &mut [u64],
-    owners: &mut [u32],
+    lent: LentRecord,
+    tables: &mut LentTables,
     area: u64,
     frame: Frame,
     count: u64,
     device: u64,
-) -> Answer
-    ensures { Answers (λ m. release m area frame count device) memory areas result (slice_of marks) (slice_of words) (slice_of bitmap) (slice_of owners) }
+) -> Result<Numbers, Refusal>
+    ensures { Answers (λ m. release m area frame count device) lent.entry result tables.old tables.new }
 {
-    let number = release_refusal(
-        memory, areas, marks, words, bitmap, owners, area, frame, count, device,
-    );
-    if number != refusal::NONE {
-        return Answer::refused(number);
-    }
-    free_run(
-        memory, areas, marks, words, bitmap, owners, area, frame, count,
-    );
-    Answer::done(0, 0)
+    let release = ReleaseRequest {
+        area,
+        frame,
+        count,
+        device,
+    };
+    check_release(lent, tables, release)?;
+    free_run(lent, tables, release);
+    Ok(Numbers::NONE)
 }
 
 // The run at a bit of an area becomes a device's grant: its pages go out, its frames are marked, its bits set, and the device owns its frames.
-fn take_run(
-    memory: Memory,
-    areas: &[u64],
-    marks: &mut [u32],
-    words: &mut [u64],
-    bitmap: &mut [u64],
-    owners: &mut [u32],
-    area: u64,
-    count: u64,
-    run: Bit,
-    device: u32,
-)
-    requires { RunFits (record_with memory areas.now) (tables marks.old words.old bitmap.old owners.old) area count run }
-    ensures { tables marks.new words.new bitmap.new owners.new ≡ take_run (given memory areas) (tables marks.old words.old bitmap.old owners.old) area count run device }
+fn take_run(lent: LentRecord, tables: &mut LentTables, request: GrantRequest, run: Bit)
+    requires run { RunFits (record_in lent) (tables_in tables.old) request.area request.count run }
+    requires device { request.device < 2 ^ 32 }
+    ensures same { SameSlices tables.old tables.new }
+    ensures taken { tables_in tables.new ≡ take_run (record_in lent.entry) (tables_in tables.old) request.area request.count run request.device }
 {
-    let a = area_at(areas, area as usize);
-    let start = bitmap_start(areas, area);
-    let page = place_of(memory.base, frame_of_bit(a, run));
+    let count = request.count;
+    let a = area_at(lent.areas, request.area as usize);
+    let start = bitmap_start(lent.areas, request.area);
+    let page = place_of(lent.memory.base, frame_of_bit(a, run));
     let bits = a.bits_for(count) as usize;
-    move_out(memory, areas, marks, words, area, page, count);
-    mark_run(marks, words, page, count);
-    set_run(bitmap, start, run.0, bits);
-    fill_places(owners, page, count, device);
+    move_out(lent, tables, request.area, page, count);
+    mark_run(tables, page, count);
+    put_run(tables.bitmap, start, run.0, bits, true);
+    fill(tables.owners, page.0, count, request.device as u32);
 }
 
 // A grant whose arguments are right: the lowest run that can be granted, where there is one and its pages have somewhere to go.
-fn grant_lowest(
-    memory: Memory,
-    areas: &[u64],
-    marks: &mut [u32],
-    words: &mut [u64],
-    bitmap: &mut [u64],
-    owners: &mut [u32],
-    area: u64,
-    count: u64,
-    align: u64,
-    device: u64,
-) -> Answer
-    requires { Passed (take 2 (grant_checks (record_with memory areas.now) area count align device (tables marks.old words.old bitmap.old owners.old))) }
-    ensures { Answers (λ m. grant m area count align device) memory areas result (slice_of marks) (slice_of words) (slice_of bitmap) (slice_of owners) }
+fn choose_run(
+    lent: LentRecord,
+    tables: &LentTables,
+    request: GrantRequest,
+) -> Result<ChosenRun, Refusal>
+    requires { Passed (take 2 (grant_checks (record_in lent) request.area request.count request.align request.device (tables_in tables.now))) }
+    ensures { Chooses (record_in lent.entry) (tables_in tables.now) request result }
 {
-    let a = area_at(areas, area as usize);
-    let run = find_run(memory, areas, marks, bitmap, area, count, align);
-    if a.bits() <= run.0 as u64 {
-        return Answer::refused(refusal::NO_RUN);
+    let base = lent.memory.base;
+    let area = area_at(lent.areas, request.area as usize);
+    let run = find_run(lent, tables, request).ok_or(Refusal::NoRun)?;
+    let first = frame_of_bit(area, run);
+    let moved = count_movable(tables.marks, place_of(base, first), request.count);
+    if !has_free_outside(tables.marks, base, area, moved) {
+        return Err(Refusal::NoTarget);
     }
-    let first = frame_of_bit(a, run);
-    let page = place_of(memory.base, first);
-    let moved = count_movable(marks, page, count);
-    if !has_free_outside(marks, memory.base, a, moved) {
-        return Answer::refused(refusal::NO_TARGET);
-    }
-    take_run(
-        memory,
-        areas,
-        marks,
-        words,
-        bitmap,
-        owners,
-        area,
-        count,
-        run,
-        device as u32,
-    );
-    Answer::done(first.0, moved)
+    Ok(ChosenRun { run, first, moved })
 }
 
 // The lowest run that can be granted is a device's, and its movable pages stand elsewhere.
 pub fn grant(
-    memory: Memory,
-    areas: &[u64],
-    marks: &mut [u32],
-    words: &mut [u64],
-    bitmap: &mut [u64],
-    owners: &mut [u32],
+    lent: LentRecord,
+    tables: &mut LentTables,
     area: u64,
     count: u64,
     align: u64,
     device: u64,
-) -> Answer
-    ensures { Answers (λ m. grant m area count align device) memory areas result (slice_of marks) (slice_of words) (slice_of bitmap) (slice_of owners) }
+) -> Result<Numbers, Refusal>
+    ensures { Answers (λ m. grant m area count align device) lent.entry result tables.old tables.new }
 {
-    let number = request_refusal(
-        memory, areas, marks, words, bitmap, owners, area, count, align, device,
-    );
-    if number != refusal::NONE {
-        return Answer::refused(number);
-    }
-    grant_lowest(
-        memory, areas, marks, words, bitmap, owners, area, count, align, device,
-    )
+    let request = GrantRequest {
+        area,
+        count,
+        align,
+        device,
+    };
+    check_grant(lent, tables, request)?;
+    let chosen = choose_run(lent, tables, request)?;
+    take_run(lent, tables, request, chosen.run);
+    Ok(Numbers {
+        first: chosen.first.0,
+        second: chosen.moved,
+    })
 }

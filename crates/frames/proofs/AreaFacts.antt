@@ -1,7 +1,7 @@
 -- What the code's comparisons say of an area. Assumes nothing.
-use Prim.Native.Nat.{ℕ, zero, suc, ◌+◌, ◌-◌, ◌*◌, ◌/◌, ◌%◌, ◌^◌, ◌≤◌, ◌<◌}
+use Prim.Native.Nat.{ℕ, zero, suc, ◌+◌, ◌-◌, ◌*◌, ◌/◌, ◌%◌, ◌^◌, ◌≤◌, ◌<◌, min}
 use native.Mathlib.Omega.{arith}
-use native.Mathlib.Nat.{div-add-mod', mod-lt, mul-add-div_right, add-div_left, div-eq_of_lt, div-lt_self, one-mul}
+use native.Mathlib.Nat.{div-add-mod', mod-lt, mul-add-div_right, add-div_left, div-eq_of_lt, one-mul}
 use native.Mathlib.Numerals.{add-one}
 use mathlib.Core.Path.{◌≡◌, refl, sym, ap, ◌∙◌}
 use mathlib.Core.Bool.{true, false}
@@ -52,19 +52,20 @@ module _ (areas : List ℕ) (n : ℕ) (f : Frame) where
       (λ h. ap (λ (a : Area). holds_frame a f) (area_past areas i (omega arith)) ∙ holds_above no_area f.0 (omega arith)))
 
 -- ---- rounding up
-pub ceiling_exact : (x d : ℕ) → 0 < d → x % d ≡ 0 → ceiling x d ≡ x / d
-ceiling_exact x d h e =
-    let q = x / d in
-    let s : x + (d - 1) ≡ q * d + (d - 1) = omega (arith, div-add-mod' x d) in
-    ap (λ (y : ℕ). y / d) s ∙ mul-add-div_right h q (d - 1) ∙ ap (λ (y : ℕ). q + y) (div-eq_of_lt (omega arith)) ∙ omega arith
-
-pub ceiling_more : (x d : ℕ) → 0 < d → (x % d ≡ 0 → ⊥) → ceiling x d ≡ x / d + 1
-ceiling_more x d h e =
+pub ceiling_is : (x d : ℕ) → 0 < d → x / d + min 1 (x % d) ≡ ceiling x d
+ceiling_is x d h =
     let q = x / d in
     let r = x % d in
-    let s : x + (d - 1) ≡ q * d + (d + (r - 1)) = omega (arith, div-add-mod' x d) in
+    let whole = div-add-mod' x d in
+    sym
+    (below_or_not 0 r
+    (λ some.
+    let s : x + (d - 1) ≡ q * d + (d + (r - 1)) = omega (arith, whole) in
     let t : (r - 1) / d ≡ 0 = div-eq_of_lt (omega (arith, mod-lt x h)) in
-    ap (λ (y : ℕ). y / d) s ∙ mul-add-div_right h q (d + (r - 1)) ∙ omega (arith, add-div_left (r - 1) h)
+    ap (λ (y : ℕ). y / d) s ∙ mul-add-div_right h q (d + (r - 1)) ∙ omega (arith, add-div_left (r - 1) h))
+    (λ none.
+    let s : x + (d - 1) ≡ q * d + (d - 1) = omega (arith, whole) in
+    ap (λ (y : ℕ). y / d) s ∙ mul-add-div_right h q (d - 1) ∙ ap (λ (y : ℕ). q + y) (div-eq_of_lt (omega arith)) ∙ omega arith))
 
 -- fewer than d, but not none, round up to 1
 pub ceiling_one : (x d : ℕ) → 0 < x → x < d → ceiling x d ≡ 1
@@ -76,13 +77,6 @@ ceiling_one x d a b =
 
 pub ceiling_zero : (d : ℕ) → 0 < d → ceiling 0 d ≡ 0
 ceiling_zero d h = div-eq_of_lt (omega arith)
-
--- a quotient that leaves a rest is below the number
-pub div_below : (x d : ℕ) → 0 < d → x < 2 ^ 64 → (x % d ≡ 0 → ⊥) → x / d + 1 < 2 ^ 64
-div_below x d h b e =
-    let positive : 0 < x = omega (arith, div-add-mod' x d) in
-    let two : 1 < d = omega (arith, mod-lt x h) in
-    omega (arith, div-lt_self positive two)
 
 -- ---- powers of two
 pub one_shl : (k : ℕ) → k < 64 → 1 * 2 ^ k % 2 ^ 64 ≡ 2 ^ k

@@ -3,6 +3,7 @@ pub mod AreaNumbers
 pub mod FillFacts
 pub mod MarkFacts
 pub mod Orders
+pub mod PlaceFacts
 pub mod ScanFacts
 pub mod StretchFacts
 pub mod Stuck

@@ -5,31 +5,15 @@ use mathlib.Core.Path.{◌≡◌, ap}
 use mathlib.Core.Bool.{Bool, true, false, ◌||◌}
 use mathlib.Core.List.{List}
 use lib.ListN.{length, get_or-eq_default}
-use lib.Dec.{eqb}
 use borrow.Author.Tests.{eq-eqb, ne_eqb}
 use Rattle.search.proofs.Bools.{below_or_not, and_false_right}
-use Rattle.frames.specs.Scans.{marked, has_field}
+use Rattle.frames.specs.Scans.{marked}
 use Rattle.frames.specs.Marks.{has_kind, is_page_of, can_leave, is_granted, movable, pinned, fixed}
 
 module _ (name mark : ℕ) where
-  -- kinds 1, 2 and 3 are pages
-  pub page_kind : 0 < mark % 8 → mark % 8 ≤ 3 → is_page_of name mark ≡ eqb (mark / 8) name
-  page_kind a b =
-      let k = mark % 8 in
-      below_or_not k 2 (λ h. rw (eq-eqb k 1 (omega arith)))
-      (λ h.
-      below_or_not k 3 (λ g. rw (ne_eqb k 1 (λ e. omega arith), eq-eqb k 2 (omega arith)))
-      (λ g. rw (ne_eqb k 1 (λ e. omega arith), ne_eqb k 2 (λ e. omega arith), eq-eqb k 3 (omega arith))))
-
-  pub no_page : (mark % 8 ≡ 1 → ⊥) → (mark % 8 ≡ 2 → ⊥) → (mark % 8 ≡ 3 → ⊥) → is_page_of name mark ≡ false
-  no_page a b d = let k = mark % 8 in rw (ne_eqb k 1 a, ne_eqb k 2 b, ne_eqb k 3 d)
-
   pub other_name : (mark / 8 ≡ name → ⊥) → is_page_of name mark ≡ false
   other_name h =
       rw (ne_eqb (mark / 8) name h) (and_false_right (has_kind movable mark || has_kind pinned mark || has_kind fixed mark))
-
-  pub no_field : has_field name mark ≡ false → is_page_of name mark ≡ false
-  no_field e = rw e (and_false_right (has_kind movable mark || has_kind pinned mark || has_kind fixed mark))
 
 module _ (mark : ℕ) where
   pub leaves : mark % 8 ≤ 1 → can_leave mark ≡ true

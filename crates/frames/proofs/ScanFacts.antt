@@ -1,6 +1,5 @@
 -- What holds at the head of a loop that looks through the places from `from` up to `end`, and stands at i. Assumes nothing.
 --     Seeking     a search for the lowest place that passes: what is left to search is the range from i on
---     Narrowing   the same, where the lowest found so far is the end of what is looked through
 --     Asking      whether some place passes, with no exit: whether one of the j from `from` on does
 --     Passing     a check that each place passes: each place before i does
 --     Taking      the places that pass are taken off a number, as long as it is not 0
@@ -12,8 +11,8 @@ use mathlib.Core.Path.{◌≡◌, refl, sym, ap, subst, ◌∙◌}
 use mathlib.Core.Bool.{Bool, true, false, ◌||◌}
 use Rattle.std.specs.Prelude.{if◌then◌else◌}
 use Rattle.search.specs.Search.{lowest_from, some, every, how_many}
-use Rattle.search.proofs.Bools.{by_cases, below_or_not}
-use Rattle.search.proofs.Lowest.{Least, lowest_least, lowest_is, lowest_here, lowest_skip, lowest_next, lowest_end}
+use Rattle.search.proofs.Bools.{below_or_not}
+use Rattle.search.proofs.Lowest.{Least, lowest_least, lowest_here, lowest_skip, lowest_next, lowest_end}
 use Rattle.search.proofs.Ranges.{some_none, some_next, all_every, every_miss}
 use Rattle.search.proofs.Counts.{many_none, many_next, many_split, many_zero, many_le}
 
@@ -49,59 +48,6 @@ module _ {p : ℕ → Bool} {from end i : ℕ} (s : Seeking p from end i) (j g :
 
   pub part_miss : j ≤ g → Seeking p from end j
   part_miss h = seek_skip s j a b (λ k u v. part_least.miss k u (omega arith))
-
--- where no place of the range passes, the search goes to its end
-pub seek_none : (p : ℕ → Bool) (i j : ℕ) → i ≤ j → ((k : ℕ) → i ≤ k → k < j → p k ≡ false) → j ≡ lowest_from p i (j - i)
-seek_none p i j h none = seek_end (seek_skip (seek_start {p = p} {from = i} {end = j}) j h (le_refl j) none) (le_refl j)
-
-pub record Narrowing (p : ℕ → Bool) (from end found i : ℕ) : Type 0 where
-  pub begun : from ≤ i
-  pub low : from ≤ found
-  pub high : found ≤ end
-  pub hit : found < end → p found ≡ true
-  pub miss : (k : ℕ) → from ≤ k → k < i → k < found → p k ≡ false
-
-pub narrow_start : {p : ℕ → Bool} (from end : ℕ) → from ≤ end → Narrowing p from end end from
-narrow_start from end h =
-    record { begun = le_refl from; low = h; high = le_refl end; hit = λ a. absurd (omega arith); miss = λ k a b. absurd (omega arith) }
-
-module _ {p : ℕ → Bool} {from end found i : ℕ} (s : Narrowing p from end found i) where
-  narrow_hit : i < found → p i ≡ true → Narrowing p from end i (i + 1)
-  narrow_hit h e =
-      record {
-        begun = omega (arith, s.begun);
-        low = s.begun;
-        high = omega (arith, s.high);
-        hit = λ _. e;
-        miss = λ k a b c. s.miss k a c (omega arith);
-      }
-
-  narrow_miss : p i ≡ false → Narrowing p from end found (i + 1)
-  narrow_miss e =
-      record {
-        begun = omega (arith, s.begun);
-        low = s.low;
-        high = s.high;
-        hit = s.hit;
-        miss = λ k a b c. below_or_not k i (λ h. s.miss k a h c) (λ h. subst (λ (x : ℕ). p x ≡ false) (omega arith) e);
-      }
-
-  -- the place at i is looked at: r is it, where it passes, and else what was found
-  pub narrow_turn : (r : ℕ) → r ≡ (if p i then i else found) → i < found → Narrowing p from end r (i + 1)
-  narrow_turn r e h =
-      by_cases (p i) (λ t. rw (e ∙ ap (λ (b : Bool). if b then i else found) t) (narrow_hit h t))
-      (λ f. rw (e ∙ ap (λ (b : Bool). if b then i else found) f) (narrow_miss f))
-
-  pub narrow_end : found ≤ i → found ≡ lowest_from p from (end - from)
-  narrow_end h =
-      sym
-      (lowest_is p from (end - from) found
-      (record {
-        low = s.low;
-        high = omega (arith, s.high, s.low);
-        hit = λ a. s.hit (omega (arith, s.low, s.high));
-        miss = λ k a b. s.miss k a (omega arith) b;
-      }))
 
 pub record Asking (p : ℕ → Bool) (from : ℕ) (hit : Bool) (j : ℕ) : Type 0 where
   pub asked : hit ≡ some p from j

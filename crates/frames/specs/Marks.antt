@@ -1,5 +1,7 @@
 -- Document 01, "The machine and its neighbours": mark = 8 x field + kind. Kinds 6 and 7 are unused: they pass none of these tests.
 use Rattle.std.specs.Prelude.{ℕ, ◌+◌, ◌*◌, ◌/◌, ◌%◌, Bool, ◌&&◌, ◌||◌, eqb}
+use Rattle.frames.specs.declared.kinds.Kind.{Kind}
+use Rattle.frames.specs.declared.kinds.Kind.TheVariants.{Free, Movable, Pinned, Fixed, Head, Later}
 
 -- how many kinds there are
 abbrev pub kinds : ℕ
@@ -32,6 +34,14 @@ head = 4
 
 abbrev pub later : ℕ
 later = 5
+
+abbrev pub kind_number : Kind → ℕ
+kind_number Free = free
+kind_number Movable = movable
+kind_number Pinned = pinned
+kind_number Fixed = fixed
+kind_number Head = head
+kind_number Later = later
 
 abbrev pub has_kind : ℕ → ℕ → Bool
 has_kind kind mark = eqb (kind_of mark) kind

@@ -1,6 +1,5 @@
 -- The tests that a scan of the marks makes at each place.
-use Rattle.std.specs.Prelude.{ℕ, ◌+◌, Bool, not, ◌&&◌, List, eqb, get_or, if◌then◌else◌}
-use Rattle.std.specs.Int.Bits.{bit_and}
+use Rattle.std.specs.Prelude.{ℕ, ◌+◌, Bool, not, ◌&&◌, List, eqb, get_or}
 use Rattle.frames.specs.declared.Frame.{Frame}
 use Rattle.frames.specs.Units.{frame}
 use Rattle.frames.specs.Marks.{field_of, has_kind, free}
@@ -9,14 +8,6 @@ use Rattle.frames.specs.Areas.{in_areas}
 -- a test of the mark at a place; past the end a mark reads 0
 abbrev pub marked : (ℕ → Bool) → List ℕ → ℕ → Bool
 marked test marks i = test (get_or marks i 0)
-
--- the mark has a bit of a mask, or none
-unfoldable pub has_bits : Bool → ℕ → ℕ → Bool
-has_bits any mask mark = if any then not (eqb (bit_and mark mask) 0) else eqb (bit_and mark mask) 0
-
--- of the bits of a mask the mark has just those of a kind
-unfoldable pub bits_are : ℕ → ℕ → ℕ → Bool
-bits_are mask kind mark = eqb (bit_and mark mask) kind
 
 abbrev pub has_field : ℕ → ℕ → Bool
 has_field field mark = eqb (field_of mark) field

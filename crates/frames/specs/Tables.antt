@@ -27,7 +27,7 @@ abbrev pub set_page : Tables → Place → ℕ → ℕ → Tables
 set_page t p mark word = tables (set t.marks p.0 mark) (set t.words p.0 word) t.bitmap t.owners
 
 -- the d entries from i on become v
-unfoldable pub fill : List ℕ → ℕ → ℕ → ℕ → List ℕ
+unfoldable pub fill : {A : Type 0} → List A → ℕ → ℕ → A → List A
 fill l i zero v = l
 fill l i (suc d) v = fill (set l i v) (suc i) d v
 

@@ -5,19 +5,8 @@ ghost use Rattle.frames.specs.Units.{most_number};
 ghost use Rattle.frames.specs.Orders.{in_use};
 ghost use Rattle.frames.specs.Areas.{ceiling, end_of, bit_count, word_count, first_word, bits_for, area_in, set_area};
 
-use crate::units::{place_of, sum_or_most};
+use crate::units::place_of;
 use crate::{Area, Frame, Place};
-
-// x / d rounded up.
-fn ceiling(x: u64, d: u64) -> u64
-    requires { 0 < d }
-    ensures { result ≡ ceiling x d }
-{
-    if x % d == 0 {
-        return x / d;
-    }
-    x / d + 1
-}
 
 impl Area {
     // The bits of its bitmap.
@@ -34,8 +23,7 @@ impl Area {
     pub fn words(self) -> u64
         ensures { result ≡ word_count self }
     {
-        let bits = self.bits();
-        ceiling(bits, 64)
+        self.bits().div_ceil(64)
     }
 
     // The bits that `count` of its frames take.
@@ -43,37 +31,20 @@ impl Area {
         ensures { result ≡ bits_for self count }
     {
         if self.order_per_bit < 64 {
-            return ceiling(count, 1u64 << self.order_per_bit);
+            return count.div_ceil(1u64 << self.order_per_bit);
         }
-        if count == 0 {
-            return 0;
-        }
-        1
+        count.min(1)
     }
 
     // The place after the area's last, or `end` where that comes first.
     pub(crate) fn end_place(self, base: Frame, end: Place) -> Place
         ensures { result.0 ≡ min (end_of self - base.0) end.0 }
     {
-        if base.0 <= self.base.0 {
-            let start = place_of(base, self.base);
-            if end.0 <= start.0 {
-                return end;
-            }
-            if (end.0 - start.0) as u64 <= self.count {
-                return end;
-            }
-            return Place(start.0 + self.count as usize);
-        }
-        let past = base.0 - self.base.0;
-        if self.count <= past {
-            return Place(0);
-        }
-        let left = self.count - past;
-        if end.0 as u64 <= left {
-            return end;
-        }
-        Place(left as usize)
+        let start = place_of(base, self.base);
+        let left = self
+            .count
+            .saturating_sub(base.0.saturating_sub(self.base.0));
+        Place(start.0.saturating_add(left as usize).min(end.0))
     }
 }
 
@@ -81,10 +52,7 @@ impl Area {
 fn number_at(areas: &[u64], at: usize) -> u64
     ensures { result ≡ get_or areas.now at 0 }
 {
-    if at < areas.len() {
-        return areas[at];
-    }
-    0
+    areas.get(at).copied().unwrap_or(0)
 }
 
 // Area i of a record's areas; all zeros past their end.
@@ -110,7 +78,7 @@ pub fn area_at(areas: &[u64], i: usize) -> Area
     }
 }
 
-// A number of a record's areas becomes another; past their end nothing is kept.
+// A number of a record's areas becomes another; past their end nothing is kept. It goes by an index: `get_mut` says nothing of what the slice ends as.
 fn set_number(areas: &mut [u64], at: usize, value: u64)
     ensures { areas.new ≡ set areas.old at value }
 {
@@ -136,25 +104,17 @@ pub fn set_area(areas: &mut [u64], i: usize, area: Area)
 pub(crate) fn in_use(areas: &[u64], declared: u64) -> usize
     ensures { result ≡ in_use areas.now declared }
 {
-    let room = ceiling(areas.len() as u64, Area::NUMBERS as u64);
-    if room <= declared {
-        return room as usize;
-    }
-    declared as usize
+    let room = areas.len().div_ceil(Area::NUMBERS) as u64;
+    declared.min(room) as usize
 }
 
 // The first bitmap word of area i; the largest number where it would pass that.
 pub fn first_word(areas: &[u64], i: u64) -> u64
     ensures { result ≡ min (first_word areas.now i) most_number }
 {
-    let end = in_use(areas, i);
-    let mut word = 0;
-    let mut before = 0;
-    while before < end {
-        let area = area_at(areas, before);
-        let words = area.words();
-        word = sum_or_most(word, words);
-        before += 1;
+    let mut word = 0u64;
+    for before in 0..in_use(areas, i) {
+        word = word.saturating_add(area_at(areas, before).words());
     }
     word
 }

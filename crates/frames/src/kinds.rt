@@ -1,13 +1,35 @@
-// The kinds of marks. A page is movable, pinned or fixed; kinds 6 and 7 are unused.
-pub const FREE: u32 = 0;
+// The kinds of marks.
+ghost use Rattle.std.specs.Prelude.{◌<◌, ◌^◌, ◌≡◌};
+ghost use Rattle.frames.specs.Marks.{has_kind, mark_of, kind_number};
 
-pub const MOVABLE: u32 = 1;
+// What a frame holds, as its mark says: nothing, a page, which is movable, pinned or fixed, or a frame of a grant, its first or a later one.
+// A mark is 8 times its field and its kind's number; the numbers 6 and 7 are unused.
+#[derive(Clone, Copy, Debug, PartialEq, Eq)]
+pub enum Kind {
+    Free = 0,
+    Movable = 1,
+    Pinned = 2,
+    Fixed = 3,
+    Head = 4,
+    Later = 5,
+}
 
-pub const PINNED: u32 = 2;
+impl Kind {
+    // How many numbers of kinds a mark has room for.
+    const NUMBERS: u32 = 8;
 
-pub const FIXED: u32 = 3;
+    // The mark is of this kind.
+    pub fn is_of(self, mark: u32) -> bool
+        ensures { result ≡ has_kind (kind_number self) mark }
+    {
+        mark % Self::NUMBERS == self as u32
+    }
 
-// The first frame of a grant, and a later one.
-pub const HEAD: u32 = 4;
-
-pub const LATER: u32 = 5;
+    // The mark of a field and this kind. A longer field has no mark.
+    pub fn mark(self, field: u32) -> u32
+        requires { field < 2 ^ 29 }
+        ensures { result ≡ mark_of field (kind_number self) }
+    {
+        Self::NUMBERS * field + self as u32
+    }
+}

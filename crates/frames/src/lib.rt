@@ -3,20 +3,22 @@
 
 mod areas;
 mod fills;
-pub mod kinds;
+mod kinds;
 mod marks;
 mod order;
+mod scans;
 mod targets;
 mod units;
 mod walk;
 
 pub use areas::{area_at, first_word, set_area};
-pub use fills::{fill_numbers, fill_places, fill_words};
+pub use fills::fill;
+pub use kinds::Kind;
 pub use marks::{
     are_later, count_granted, count_movable, find_free, find_free_ordinary, find_page, first_stuck,
 };
-pub use order::{Order, in_order};
-pub use targets::{Seeking, has_free_outside, next_target};
+pub use order::OrderedAreas;
+pub use targets::{Seeking, has_free_outside};
 pub use units::{frame_at, place_of};
 
 // A physical frame number.
@@ -30,6 +32,15 @@ pub struct Place(pub usize);
 // A bit number in an area's bitmap, from 0.
 #[derive(Clone, Copy)]
 pub struct Bit(pub usize);
+
+// The tables that a call is lent: a mark and a content word for each frame, the bitmap's words, and for each frame the device that owns it.
+#[derive(Drop)]
+pub struct LentTables<'a> {
+    pub marks: &'a mut [u32],
+    pub words: &'a mut [u64],
+    pub bitmap: &'a mut [u64],
+    pub owners: &'a mut [u32],
+}
 
 // A reserved area: its first frame, its count of frames, and the order of its pages per bit, 2^order_per_bit (Linux's name; document
 // 01's k).

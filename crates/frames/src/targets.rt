@@ -8,11 +8,12 @@ ghost use Rattle.frames.specs.Targets.{is_free_outside, NextTarget};
 ghost use Rattle.frames.specs.Steps.Others.{FreeIn, FreeInOther, NextOther};
 
 use crate::areas::area_at;
-use crate::marks::{KIND_BITS, kind_in, less_free, next_free};
-use crate::order::Order;
+use crate::marks::less_free;
+use crate::order::OrderedAreas;
+use crate::scans::first_met;
 use crate::units::place_of;
-use crate::walk::{Stretch, earlier_place, later_place};
-use crate::{Area, Frame, Place};
+use crate::walk::Stretch;
+use crate::{Area, Frame, Kind, Place};
 
 // The last place found in the other areas, and which area of the order has it: those before it have no free place from there on.
 #[derive(Clone, Copy)]
@@ -52,96 +53,75 @@ impl Seeking {
     }
 }
 
-// The lowest free place of an area from `from` on; the place after the last where there is none.
+// The lowest free place of an area from `from` on; the place after the last where there is none, from where no search finds one.
 fn free_in_area(marks: &[u32], base: Frame, area: Area, from: Place) -> Place
     ensures { FreeIn marks.now base area from.0 result.0 }
 {
     let len = marks.len();
-    let start = later_place(from, place_of(base, area.base));
+    let start = Place(from.0.max(place_of(base, area.base).0));
     let end = area.end_place(base, Place(len));
     if end.0 <= start.0 {
         return Place(len);
     }
-    let at = kind_in(marks, KIND_BITS, false, start, end);
+    let at = first_met(marks, &Kind::Free, start, end);
     if at.0 < end.0 {
         return at;
     }
     Place(len)
 }
 
-// The same of area i, where that is not the one that pages leave.
-fn free_in_other(
-    marks: &[u32],
-    base: Frame,
-    areas: &[u64],
-    i: usize,
-    held: usize,
-    from: Place,
-) -> Place
-    ensures { FreeInOther marks.now base (area_in areas.now i) i held from.0 result.0 }
-{
-    if i == held {
-        return Place(marks.len());
-    }
-    free_in_area(marks, base, area_at(areas, i), from)
-}
-
-// The lowest free place of the areas but `held` from the last one's place on: area after area in their order.
-fn next_other(
-    marks: &[u32],
-    base: Frame,
-    areas: &[u64],
-    order: Order,
-    held: usize,
-    last: Others,
-) -> Others
-    ensures { NextOther marks.now base areas.now order held last result }
-{
-    let len = marks.len();
-    let from = last.from;
-    let mut next = last.next;
-    while next < order.count {
-        let at = free_in_other(marks, base, areas, order.nth(next), held, from);
-        if at.0 < len {
-            return Others { from: at, next };
+impl OrderedAreas<'_> {
+    // The same of area i, where that is not the one that pages leave.
+    fn free_in_other(&self, marks: &[u32], i: usize, held: usize, from: Place) -> Place
+        ensures { FreeInOther marks.now self.now.base (area_in self.now.areas.now i) i held from.0 result.0 }
+    {
+        if i == held {
+            return Place(marks.len());
         }
-        next += 1;
+        free_in_area(marks, self.base, area_at(self.areas, i), from)
     }
-    Others {
-        from: Place(len),
-        next,
-    }
-}
 
-// The target after the last one, for a page of area `held`. Something is said only of an order and a search that `frames` made for these areas, this
-// base, as many marks and this area, where since then pages of the area alone have moved, to the targets found.
-pub fn next_target(
-    marks: &[u32],
-    base: Frame,
-    areas: &[u64],
-    order: Order,
-    held: usize,
-    last: Seeking,
-) -> Seeking
-    ensures { NextTarget marks.now base areas.now order held last result }
-{
-    let passed = last.ordinary;
-    let others = last.others;
-    let ordinary = next_free(marks, base, areas, order, passed);
-    let to = ordinary.from;
-    if to.0 < marks.len() {
-        return Seeking {
-            to,
+    // The lowest free place of the areas but `held` from the last one's place on: area after area in their order.
+    fn next_other(&self, marks: &[u32], held: usize, last: Others) -> Others
+        ensures { NextOther marks.now self.now.base self.now.areas.now self.now.order held last result }
+    {
+        let len = marks.len();
+        let from = last.from;
+        // Where the walk stops, `next` goes into the result: the next walk goes on with that area.
+        let mut next = last.next;
+        while next < self.order.count {
+            let at = self.free_in_other(marks, self.order.nth(next), held, from);
+            if at.0 < len {
+                return Others { from: at, next };
+            }
+            next += 1;
+        }
+        Others {
+            from: Place(len),
+            next,
+        }
+    }
+
+    // The target after the last one, for a page of area `held`. Something is said only of an order and a search that `frames` made for these areas,
+    // this base, as many marks and this area, where since then pages of the area alone have moved, to the targets found.
+    pub fn next_target(&self, marks: &[u32], held: usize, last: Seeking) -> Seeking
+        ensures { NextTarget marks.now self.now.base self.now.areas.now self.now.order held last result }
+    {
+        let ordinary = self.next_free(marks, last.ordinary);
+        let to = ordinary.from;
+        if to.0 < marks.len() {
+            return Seeking {
+                to,
+                ordinary,
+                others: last.others,
+            };
+        }
+        let others = self.next_other(marks, held, last.others);
+        Seeking {
+            to: others.from,
             ordinary,
             others,
-        };
-    }
-    let others = next_other(marks, base, areas, order, held, others);
-    let to = others.from;
-    Seeking {
-        to,
-        ordinary,
-        others,
+        }
     }
 }
 
@@ -150,8 +130,8 @@ pub fn has_free_outside(marks: &[u32], base: Frame, area: Area, least: u64) -> b
     ensures { result ≡ leb least (how_many (is_free_outside marks.now base area) 0 (length marks.now)) }
 {
     let len = marks.len();
-    let start = earlier_place(place_of(base, area.base), Place(len));
-    let end = later_place(start, area.end_place(base, Place(len)));
+    let start = Place(place_of(base, area.base).0.min(len));
+    let end = Place(start.0.max(area.end_place(base, Place(len)).0));
     let left = less_free(marks, Place(0), start, least);
     less_free(marks, end, Place(len), left) == 0
 }

@@ -3,7 +3,7 @@
 --     buffer_kept, buffer_reported    where the numbers of all areas are not lent, no buffer is written; where they are, a report writes it
 use Prim.Native.Nat.{ℕ}
 use mathlib.Core.List.{List}
-use mathlib.Core.Path.{◌≡◌}
+use mathlib.Core.Path.{◌≡◌, sym}
 use lib.ListN.{length}
 use borrow.Author.Tests.{eq-eqb, ne_eqb}
 use Rattle.search.proofs.Bools.{by_cases}
@@ -11,6 +11,9 @@ use Rattle.frames.specs.Tables.{Tables}
 use Rattle.rules.specs.declared.Call.{Call}
 use Rattle.rules.specs.declared.Counters.{Counters}
 use Rattle.rules.specs.declared.Record.{Record}
+use Rattle.rules.specs.Does.{with_all_areas}
+use Rattle.rules.specs.Outcomes.{Outcome}
+use Rattle.setup.proofs.AllAreas.{asked}
 use Rattle.rules.specs.Counters.{after_grant, counted}
 use Rattle.rules.specs.Limits.{most_area_numbers}
 use Rattle.rules.specs.Report.{reported}
@@ -21,6 +24,10 @@ pub shape_uncounted : (call : Call) (c : Counters) → counted call 1 c ≡ c
 unfolding after_grant
 shape_uncounted call c =
     by_cases (role_of call).is_grant (λ y. rw y) (λ n. rw n (by_cases (role_of call).is_boot (λ y. rw y) (λ k. rw k)))
+
+-- lent the numbers of all areas, a call that asks for them is made
+pub asked_by : (call : Record → Tables → Outcome) (m : Record) (t : Tables) → length m.areas ≡ most_area_numbers → with_all_areas call m t ≡ call m t
+asked_by call m t e = sym (asked call m t e)
 
 -- ---- the buffer
 

@@ -7,18 +7,19 @@
 #![tactic(auto)]
 
 ghost use Rattle.std.specs.Prelude.{◌≡◌, []};
-ghost use Rattle.frames.specs.Tables.{tables};
+ghost use Rattle.frames.specs.Lent.{tables_in};
 ghost use Rattle.rules.specs.declared.Call.TheVariants as Call;
 ghost use Rattle.rules.specs.Report.{reported};
-ghost use Rattle.rules.specs.Does.{record_with, given};
-ghost use Rattle.machine.specs.Does.{Does, DoesWithAll, beside, buffer_after};
+ghost use Rattle.rules.specs.Does.{record_with};
+ghost use Rattle.machine.specs.Does.{kept, Does, DoesWithAll, beside, buffer_after};
 
-use answer::{Answer, refusal};
-use frames::Frame;
-use rules::{Call, Counters, Memory, Record, Request};
+use answer::{Numbers, Refusal, Refused};
+use frames::{Frame, Kind, LentTables};
+use rules::{Call, Counters, LentRecord, Memory, Record, Request};
 
 // A machine is its record, but for the numbers of its areas, which are lent beside the tables. Methods can only stand in the crate of their
-// type, and those of the memory and the counters stand below the rules that are stated of them; so the calls are methods of this one.
+// type, and those of the memory and the counters stand below the rules that are stated of them; so the calls are methods of this one. README names a
+// method for each call, so that those that differ in a kind or in the function called alone stay beside one another.
 #[derive(Clone, Copy)]
 pub struct Machine {
     pub memory: Memory,
@@ -29,306 +30,195 @@ pub struct Machine {
 #[derive(Clone, Copy)]
 pub struct Returned {
     pub machine: Machine,
-    pub answer: Answer,
+    pub answer: Result<Numbers, Refused>,
 }
 
 impl Machine {
-    // A movable page is put.
-    pub fn put_movable(
-        self,
-        areas: &mut [u64],
-        marks: &mut [u32],
-        words: &mut [u64],
-        bitmap: &mut [u64],
-        owners: &mut [u32],
-        name: u64,
-    ) -> Returned
-        ensures { Does (Call.PutMovable name) [] self areas result marks words bitmap owners }
+    // The machine as it was, after a call that changes no record and counts nothing.
+    fn kept(self, answer: Result<Numbers, Refusal>) -> Returned
+        ensures { result ≡ kept self answer }
     {
-        let answer = page_calls::put_movable(
-            self.memory,
-            areas,
-            marks,
-            words,
-            bitmap,
-            owners,
-            name,
-        );
         Returned {
             machine: self,
-            answer,
+            answer: answer.map_err(Refused::from),
         }
+    }
+
+    // A movable page is put.
+    pub fn put_movable(self, areas: &mut [u64], tables: &mut LentTables, name: u64) -> Returned
+        ensures { Does (Call.PutMovable name) [] self areas.old areas.new result tables.old tables.new }
+    {
+        let lent = LentRecord {
+            memory: self.memory,
+            areas,
+        };
+        self.kept(page_calls::put_page(lent, tables, name, Kind::Movable))
     }
 
     // A fixed page is put, which no area takes.
-    pub fn put_fixed(
-        self,
-        areas: &mut [u64],
-        marks: &mut [u32],
-        words: &mut [u64],
-        bitmap: &mut [u64],
-        owners: &mut [u32],
-        name: u64,
-    ) -> Returned
-        ensures { Does (Call.PutFixed name) [] self areas result marks words bitmap owners }
+    pub fn put_fixed(self, areas: &mut [u64], tables: &mut LentTables, name: u64) -> Returned
+        ensures { Does (Call.PutFixed name) [] self areas.old areas.new result tables.old tables.new }
     {
-        let answer = page_calls::put_fixed(self.memory, areas, marks, words, bitmap, owners, name);
-        Returned {
-            machine: self,
-            answer,
-        }
+        let lent = LentRecord {
+            memory: self.memory,
+            areas,
+        };
+        self.kept(page_calls::put_page(lent, tables, name, Kind::Fixed))
     }
 
     // A page is gone from its frame, unless it is pinned.
-    pub fn drop_page(
-        self,
-        areas: &mut [u64],
-        marks: &mut [u32],
-        words: &mut [u64],
-        bitmap: &mut [u64],
-        owners: &mut [u32],
-        name: u64,
-    ) -> Returned
-        ensures { Does (Call.Drop name) [] self areas result marks words bitmap owners }
+    pub fn drop_page(self, areas: &mut [u64], tables: &mut LentTables, name: u64) -> Returned
+        ensures { Does (Call.Drop name) [] self areas.old areas.new result tables.old tables.new }
     {
-        let answer = page_calls::drop_page(self.memory, areas, marks, words, bitmap, owners, name);
-        Returned {
-            machine: self,
-            answer,
-        }
+        let lent = LentRecord {
+            memory: self.memory,
+            areas,
+        };
+        self.kept(page_calls::drop_page(lent, tables, name))
     }
 
     // A movable page is pinned: nobody may move, rewrite or drop it.
-    pub fn pin_page(
-        self,
-        areas: &mut [u64],
-        marks: &mut [u32],
-        words: &mut [u64],
-        bitmap: &mut [u64],
-        owners: &mut [u32],
-        name: u64,
-    ) -> Returned
-        ensures { Does (Call.Pin name) [] self areas result marks words bitmap owners }
+    pub fn pin_page(self, areas: &mut [u64], tables: &mut LentTables, name: u64) -> Returned
+        ensures { Does (Call.Pin name) [] self areas.old areas.new result tables.old tables.new }
     {
-        let answer = page_calls::pin_page(self.memory, areas, marks, words, bitmap, owners, name);
-        Returned {
-            machine: self,
-            answer,
-        }
+        let lent = LentRecord {
+            memory: self.memory,
+            areas,
+        };
+        self.kept(page_calls::change_kind(lent, tables, name, Kind::Movable, Kind::Pinned))
     }
 
     // A pinned page is movable again.
-    pub fn unpin_page(
-        self,
-        areas: &mut [u64],
-        marks: &mut [u32],
-        words: &mut [u64],
-        bitmap: &mut [u64],
-        owners: &mut [u32],
-        name: u64,
-    ) -> Returned
-        ensures { Does (Call.Unpin name) [] self areas result marks words bitmap owners }
+    pub fn unpin_page(self, areas: &mut [u64], tables: &mut LentTables, name: u64) -> Returned
+        ensures { Does (Call.Unpin name) [] self areas.old areas.new result tables.old tables.new }
     {
-        let answer = page_calls::unpin_page(self.memory, areas, marks, words, bitmap, owners, name);
-        Returned {
-            machine: self,
-            answer,
-        }
+        let lent = LentRecord {
+            memory: self.memory,
+            areas,
+        };
+        self.kept(page_calls::change_kind(lent, tables, name, Kind::Pinned, Kind::Movable))
     }
 
     // The word becomes the page's, unless it is pinned.
     pub fn store_page(
         self,
         areas: &mut [u64],
-        marks: &mut [u32],
-        words: &mut [u64],
-        bitmap: &mut [u64],
-        owners: &mut [u32],
+        tables: &mut LentTables,
         name: u64,
         word: u64,
     ) -> Returned
-        ensures { Does (Call.Store name word) [] self areas result marks words bitmap owners }
+        ensures { Does (Call.Store name word) [] self areas.old areas.new result tables.old tables.new }
     {
-        let answer = page_calls::store_page(
-            self.memory,
+        let lent = LentRecord {
+            memory: self.memory,
             areas,
-            marks,
-            words,
-            bitmap,
-            owners,
-            name,
-            word,
-        );
-        Returned {
-            machine: self,
-            answer,
-        }
+        };
+        self.kept(page_calls::store_page(lent, tables, name, word))
     }
 
     // The page's frame and its word.
-    pub fn read_page(
-        self,
-        areas: &mut [u64],
-        marks: &mut [u32],
-        words: &mut [u64],
-        bitmap: &mut [u64],
-        owners: &mut [u32],
-        name: u64,
-    ) -> Returned
-        ensures { Does (Call.Read name) [] self areas result marks words bitmap owners }
+    pub fn read_page(self, areas: &mut [u64], tables: &mut LentTables, name: u64) -> Returned
+        ensures { Does (Call.Read name) [] self areas.old areas.new result tables.old tables.new }
     {
-        let answer = page_calls::read_page(self.memory, areas, marks, words, bitmap, owners, name);
-        Returned {
-            machine: self,
-            answer,
-        }
+        let lent = LentRecord {
+            memory: self.memory,
+            areas,
+        };
+        self.kept(page_calls::read_page(lent, tables, name))
     }
 
     // The lowest run that can be granted is the device's, and its movable pages stand elsewhere. It is counted.
     pub fn grant(
         self,
         areas: &mut [u64],
-        marks: &mut [u32],
-        words: &mut [u64],
-        bitmap: &mut [u64],
-        owners: &mut [u32],
+        tables: &mut LentTables,
         area: u64,
         count: u64,
         align: u64,
         device: u64,
     ) -> Returned
-        ensures { Does (Call.Grant area count align device) [] self areas result marks words bitmap owners }
+        ensures { Does (Call.Grant area count align device) [] self areas.old areas.new result tables.old tables.new }
     {
-        let answer = device_calls::grant(
-            self.memory,
+        let lent = LentRecord {
+            memory: self.memory,
             areas,
-            marks,
-            words,
-            bitmap,
-            owners,
-            area,
-            count,
-            align,
-            device,
-        );
-        let counters = self.counters.after_grant(answer.refusal);
+        };
+        let granted = device_calls::grant(lent, tables, area, count, align, device);
+        let answer = granted.map_err(Refused::from);
         let memory = self.memory;
-        let machine = Machine { memory, counters };
-        Returned { machine, answer }
+        let counters = self.counters.after_grant(answer);
+        Returned {
+            machine: Machine { memory, counters },
+            answer,
+        }
     }
 
     // A grant ends, by its owner: its frames are free, and its bits clear.
     pub fn release(
         self,
         areas: &mut [u64],
-        marks: &mut [u32],
-        words: &mut [u64],
-        bitmap: &mut [u64],
-        owners: &mut [u32],
+        tables: &mut LentTables,
         area: u64,
         frame: Frame,
         count: u64,
         device: u64,
     ) -> Returned
-        ensures { Does (Call.Release area frame count device) [] self areas result marks words bitmap owners }
+        ensures { Does (Call.Release area frame count device) [] self areas.old areas.new result tables.old tables.new }
     {
-        let answer = device_calls::release(
-            self.memory,
+        let lent = LentRecord {
+            memory: self.memory,
             areas,
-            marks,
-            words,
-            bitmap,
-            owners,
-            area,
-            frame,
-            count,
-            device,
-        );
-        Returned {
-            machine: self,
-            answer,
-        }
+        };
+        self.kept(device_calls::release(lent, tables, area, frame, count, device))
     }
 
     // The word becomes that of a frame that the device owns.
     pub fn device_store(
         self,
         areas: &mut [u64],
-        marks: &mut [u32],
-        words: &mut [u64],
-        bitmap: &mut [u64],
-        owners: &mut [u32],
+        tables: &mut LentTables,
         frame: Frame,
         word: u64,
         device: u64,
     ) -> Returned
-        ensures { Does (Call.DeviceStore frame word device) [] self areas result marks words bitmap owners }
+        ensures { Does (Call.DeviceStore frame word device) [] self areas.old areas.new result tables.old tables.new }
     {
-        let answer = device_calls::device_store(
-            self.memory,
+        let lent = LentRecord {
+            memory: self.memory,
             areas,
-            marks,
-            words,
-            bitmap,
-            owners,
-            frame,
-            word,
-            device,
-        );
-        Returned {
-            machine: self,
-            answer,
-        }
+        };
+        self.kept(device_calls::device_store(lent, tables, frame, word, device))
     }
 
     // The word of a frame that the device owns.
     pub fn device_read(
         self,
         areas: &mut [u64],
-        marks: &mut [u32],
-        words: &mut [u64],
-        bitmap: &mut [u64],
-        owners: &mut [u32],
+        tables: &mut LentTables,
         frame: Frame,
         device: u64,
     ) -> Returned
-        ensures { Does (Call.DeviceRead frame device) [] self areas result marks words bitmap owners }
+        ensures { Does (Call.DeviceRead frame device) [] self areas.old areas.new result tables.old tables.new }
     {
-        let answer = device_calls::device_read(
-            self.memory,
+        let lent = LentRecord {
+            memory: self.memory,
             areas,
-            marks,
-            words,
-            bitmap,
-            owners,
-            frame,
-            device,
-        );
-        Returned {
-            machine: self,
-            answer,
-        }
+        };
+        self.kept(device_calls::device_read(lent, tables, frame, device))
     }
 
     // A new area, where the request says or at the highest place that it can have. Its bitmap words become 0. The numbers of all areas are to
     // be lent, since those of the new one are written among them.
-    pub fn declare(
-        self,
-        areas: &mut [u64],
-        marks: &mut [u32],
-        words: &mut [u64],
-        bitmap: &mut [u64],
-        owners: &mut [u32],
-        request: Request,
-    ) -> Returned
-        ensures { DoesWithAll (Call.Declare request) [] self areas result marks words bitmap owners }
+    pub fn declare(self, areas: &mut [u64], tables: &mut LentTables, request: Request) -> Returned
+        ensures { DoesWithAll (Call.Declare request) [] self areas.old areas.new result tables.old tables.new }
     {
-        let laid = setup::declare(self.memory, areas, marks, words, bitmap, owners, request);
-        let memory = laid.memory;
-        let answer = laid.answer;
+        let laid = setup::declare(self.memory, areas, tables, request);
+        let memory = laid.map_or(self.memory, |laid| laid.memory);
         let counters = self.counters;
-        let machine = Machine { memory, counters };
-        Returned { machine, answer }
+        Returned {
+            machine: Machine { memory, counters },
+            answer: laid.map(|laid| laid.numbers).map_err(Refused::from),
+        }
     }
 
     // A new record, whatever the one given, with the areas of a regions text, and tables that are all zero. The numbers of all areas are to be
@@ -336,131 +226,86 @@ impl Machine {
     pub fn boot(
         self,
         areas: &mut [u64],
-        marks: &mut [u32],
-        words: &mut [u64],
-        bitmap: &mut [u64],
-        owners: &mut [u32],
+        tables: &mut LentTables,
         base: Frame,
         frames: u64,
         block_order: u64,
         text: &[u8],
     ) -> Returned
-        ensures { DoesWithAll (Call.Boot base frames block_order) text.now self areas result marks words bitmap owners }
+        ensures { DoesWithAll (Call.Boot base frames block_order) text.now self areas.old areas.new result tables.old tables.new }
     {
-        let laid = setup::boot(
-            self.memory,
-            areas,
-            marks,
-            words,
-            bitmap,
-            owners,
-            base,
-            frames,
-            block_order,
-            text,
-        );
-        let memory = laid.memory;
-        let answer = laid.answer;
-        let counters = self.counters.after_boot(answer.refusal);
-        let machine = Machine { memory, counters };
-        Returned { machine, answer }
-    }
-
-    // The lines of the memory report, at the front of a buffer that has room for them.
-    pub fn report(
-        self,
-        areas: &mut [u64],
-        marks: &mut [u32],
-        words: &mut [u64],
-        bitmap: &mut [u64],
-        owners: &mut [u32],
-        buffer: &mut [u8],
-    ) -> Returned
-        ensures does { Does Call.Report buffer.old self areas result marks words bitmap owners }
-        ensures buffer_after { buffer.new ≡ reported (record_with self.memory areas.old) buffer.old (tables marks.old words.old bitmap.old owners.old) }
-    {
-        let answer = report::report(self.memory, areas, marks, words, bitmap, owners, buffer);
+        let booted = setup::boot(areas, tables, base, frames, block_order, text);
+        let memory = booted.map_or(self.memory, |laid| laid.memory);
+        let answer = booted.map(|laid| laid.numbers);
+        let counters = self.counters.after_boot(answer);
         Returned {
-            machine: self,
+            machine: Machine { memory, counters },
             answer,
         }
     }
 
+    // The lines of the memory report, at the front of a buffer that has room for them.
+    pub fn report(self, areas: &mut [u64], tables: &mut LentTables, buffer: &mut [u8]) -> Returned
+        ensures does { Does Call.Report buffer.old self areas.old areas.new result tables.old tables.new }
+        ensures buffer_after { buffer.new ≡ reported (record_with self.memory areas.old) buffer.old (tables_in tables.old) }
+    {
+        let lent = LentRecord {
+            memory: self.memory,
+            areas,
+        };
+        self.kept(report::report(lent, tables, buffer))
+    }
+
     // Any call. The text is a boot's and the buffer a report's, and no other call looks at them. Since it may be a declare or a boot, the numbers
     // of all areas are to be lent.
+    #[tactic(auto, using(crate::proofs::Counted::asked_by))]
     pub fn perform(
         self,
         areas: &mut [u64],
-        marks: &mut [u32],
-        words: &mut [u64],
-        bitmap: &mut [u64],
-        owners: &mut [u32],
+        tables: &mut LentTables,
         call: Call,
         text: &[u8],
         buffer: &mut [u8],
     ) -> Returned
-        ensures does_with_all { DoesWithAll call (beside call text.now buffer.old) self areas result marks words bitmap owners }
-        ensures buffer_after { buffer.new ≡ buffer_after call buffer.old (record_with self.memory areas.old) (tables marks.old words.old bitmap.old owners.old) }
+        ensures does_with_all { DoesWithAll call (beside call text.now buffer.old) self areas.old areas.new result tables.old tables.new }
+        ensures buffer_after { buffer.new ≡ buffer_after call buffer.old (record_with self.memory areas.old) (tables_in tables.old) }
     {
         if areas.len() != Record::AREA_NUMBERS {
-            return Returned {
-                machine: self,
-                answer: Answer::refused(refusal::WRONG_SHAPE),
-            };
+            return self.kept(Err(Refusal::WrongShape));
         }
         match call {
-            Call::PutMovable { name } => {
-                self.put_movable(areas, marks, words, bitmap, owners, name)
-            }
-            Call::PutFixed { name } => self.put_fixed(areas, marks, words, bitmap, owners, name),
-            Call::Drop { name } => self.drop_page(areas, marks, words, bitmap, owners, name),
-            Call::Pin { name } => self.pin_page(areas, marks, words, bitmap, owners, name),
-            Call::Unpin { name } => self.unpin_page(areas, marks, words, bitmap, owners, name),
-            Call::Store { name, word } => {
-                self.store_page(areas, marks, words, bitmap, owners, name, word)
-            }
-            Call::Read { name } => self.read_page(areas, marks, words, bitmap, owners, name),
+            Call::PutMovable { name } => self.put_movable(areas, tables, name),
+            Call::PutFixed { name } => self.put_fixed(areas, tables, name),
+            Call::Drop { name } => self.drop_page(areas, tables, name),
+            Call::Pin { name } => self.pin_page(areas, tables, name),
+            Call::Unpin { name } => self.unpin_page(areas, tables, name),
+            Call::Store { name, word } => self.store_page(areas, tables, name, word),
+            Call::Read { name } => self.read_page(areas, tables, name),
             Call::Grant {
                 area,
                 count,
                 align,
                 device,
-            } => self.grant(
-                areas, marks, words, bitmap, owners, area, count, align, device,
-            ),
+            } => self.grant(areas, tables, area, count, align, device),
             Call::Release {
                 area,
                 frame,
                 count,
                 device,
-            } => self.release(
-                areas, marks, words, bitmap, owners, area, frame, count, device,
-            ),
+            } => self.release(areas, tables, area, frame, count, device),
             Call::DeviceStore {
                 frame,
                 word,
                 device,
-            } => self.device_store(areas, marks, words, bitmap, owners, frame, word, device),
-            Call::DeviceRead { frame, device } => {
-                self.device_read(areas, marks, words, bitmap, owners, frame, device)
-            }
-            Call::Declare { request } => self.declare(areas, marks, words, bitmap, owners, request),
+            } => self.device_store(areas, tables, frame, word, device),
+            Call::DeviceRead { frame, device } => self.device_read(areas, tables, frame, device),
+            Call::Declare { request } => self.declare(areas, tables, request),
             Call::Boot {
                 base,
                 frames,
                 block_order,
-            } => self.boot(
-                areas,
-                marks,
-                words,
-                bitmap,
-                owners,
-                base,
-                frames,
-                block_order,
-                text,
-            ),
-            Call::Report => self.report(areas, marks, words, bitmap, owners, buffer),
+            } => self.boot(areas, tables, base, frames, block_order, text),
+            Call::Report => self.report(areas, tables, buffer),
         }
     }
 }

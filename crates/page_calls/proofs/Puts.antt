@@ -1,122 +1,166 @@
 -- What a put does, from what its look-up and its scans of the marks found. Assumes nothing.
---     put_at_found, put_at_fixed, put_at_area      the place that a put takes, from what the scans found
---     put_live, put_refused, put_full, put_done    what the call does
-use Prim.Native.Nat.{ℕ, ◌+◌, ◌≤◌, ◌<◌, min}
+--     place_ordinary, place_movable     the place that a put takes, from what the scans found
+--     place_inside                      it has a mark and a word
+--     put_refused, put_live, put_full, put_done    what the call does
+use Prim.Native.Nat.{ℕ, ◌+◌, ◌<◌, min}
 use native.Mathlib.Omega.{arith}
-use mathlib.Core.Path.{◌≡◌, refl, sym, ap, ap₂, ◌∙◌}
-use mathlib.Core.Bool.{true, false, not, ◌||◌}
+use mathlib.Core.Path.{◌≡◌, refl, sym, ap, ap₂, subst, ◌∙◌}
+use mathlib.Core.Bool.{Bool, true, false, not, ◌||◌, false≢true}
 use lib.Dec.{eqb}
-use mathlib.Core.List.{List}
 use lib.ListN.{length, set}
-use borrow.Author.Tests.{lt-ltb, le-ltb, eq-eqb, ne_eqb}
-use Rattle.std.specs.Prelude.{if◌then◌else◌}
+use borrow.Author.Tests.{ltb-true, ltb-false}
+use Rattle.std.specs.Prelude.{Option, Some, None, IfSome, is_some, Ok, Err, ok_or, if◌then◌else◌}
 use Rattle.search.specs.Search.{lowest}
 use Rattle.search.proofs.Bools.{by_cases, or_neither, or_left_true, or_right_true}
 use Rattle.search.proofs.Lowest.{found_cong, found_low}
-use Rattle.answer.specs.Answers.{done}
+use Rattle.answer.specs.Answers.{done, number_of}
+use Rattle.answer.specs.declared.refusal.Refusal.{Refusal}
+use Rattle.answer.specs.declared.refusal.Refusal.TheVariants.{NoFrame}
 use Rattle.frames.specs.declared.Frame.{Frame}
 use Rattle.frames.specs.declared.Place.{Place}
-use Rattle.frames.specs.Units.{most_number, frame, place}
-use Rattle.frames.specs.Marks.{has_kind, mark_of, free, movable}
+use Rattle.frames.specs.declared.kinds.Kind.{Kind}
+use Rattle.frames.specs.declared.kinds.Kind.TheVariants.{Free, Movable, Pinned, Fixed, Head, Later}
+use Rattle.frames.specs.Units.{most_number, frame, place, place_below}
+use Rattle.frames.specs.Marks.{has_kind, kind_number, mark_of, free, movable}
 use Rattle.frames.specs.Areas.{most_areas}
 use Rattle.frames.specs.Scans.{marked, is_free_ordinary}
-use Rattle.frames.specs.Tables.{Tables, tables, mark_at, set_page, fill}
+use Rattle.frames.specs.Tables.{Tables, tables, mark_at, set_page}
 use Rattle.rules.specs.declared.Record.{Record}
 use Rattle.rules.specs.Record.{frame_at}
-use Rattle.page_calls.specs.declared.Found.TheVariants.{At, Not}
 use Rattle.rules.specs.Shape.{shape_right}
 use Rattle.rules.specs.Outcomes.{outcome, refuse}
 use Rattle.rules.specs.PageCalls.{is_place, lowest_place, free_ordinary, free_in_area, put_at, put_page}
-use Rattle.page_calls.specs.Steps.Look.{look_up}
+use Rattle.page_calls.specs.Steps.Look.{find_named, place_for}
 use Rattle.rules.proofs.Checks.{checked_stop, checked_pass, checked_end}
 use Rattle.rules.proofs.Shapes.{shape_known}
-use Rattle.page_calls.proofs.Looks.{frame_inside, looked_missing, looked_refused, looked_live}
+use Rattle.page_calls.proofs.Looks.{Named, frame_inside, named, put_not, put_stopped, put_passed}
+
+not_movable : (kind : Kind) → (kind ≡ Movable → ⊥) → eqb (kind_number kind) movable ≡ false
+not_movable Free ne = refl
+not_movable Movable ne = absurd (ne refl)
+not_movable Pinned ne = refl
+not_movable Fixed ne = refl
+not_movable Head ne = refl
+not_movable Later ne = refl
+
+none_is : {A : Type 0} (o : Option A) → false ≡ is_some o → o ≡ None
+none_is (Some p) h = absurd (false≢true h)
+none_is None h = refl
 
 -- ---- the place
 module _ (m : Record) (t : Tables) (shape : shape_right m t ≡ true) where
-  abbrev ordinary_scan : Place
-  ordinary_scan = place (lowest (is_free_ordinary t.marks m.memory.base m.areas (min m.memory.declared most_areas)) (length t.marks))
-
   lengths : length t.marks ≡ m.memory.frames
   lengths = (shape_known m t shape).marks_length
+
+  -- the lowest place of a test, where there is one
+  abbrev below : (Place → Bool) → Option Place
+  below test = if is_place m (lowest_place m test) then Some (lowest_place m test) else None
+
+  scan_below : (test : Place → Bool) → place_below (lowest (λ i. test (place i)) (length t.marks)) (length t.marks) ≡ below test
+  scan_below test = ap (λ (n : ℕ). place_below (lowest (λ i. test (place i)) n) n) lengths
+
+  abbrev ordinary_scan : Option Place
+  ordinary_scan = place_below (lowest (is_free_ordinary t.marks m.memory.base m.areas (min m.memory.declared most_areas)) (length t.marks)) (length t.marks)
 
   -- no more areas are declared than a record has
   few : min m.memory.declared most_areas ≡ m.memory.declared
   few = omega (arith, (shape_known m t shape).declared_high)
 
-  scan_ordinary : ordinary_scan ≡ lowest_place m (free_ordinary m t)
+  scan_ordinary : ordinary_scan ≡ below (free_ordinary m t)
   unfolding is_free_ordinary free_ordinary
   scan_ordinary =
-      ap (λ (n : ℕ). place (lowest (is_free_ordinary t.marks m.memory.base m.areas n) (length t.marks))) few ∙
-      ap (λ (n : ℕ). place (lowest (λ i. free_ordinary m t (place i)) n)) lengths
+      ap (λ (n : ℕ). place_below (lowest (is_free_ordinary t.marks m.memory.base m.areas n) (length t.marks)) (length t.marks)) few ∙
+      scan_below (free_ordinary m t)
 
   -- the definition's choice between two places
-  abbrev choice : ℕ → Place → Place → Place
-  choice kind p q = if is_place m p || not (eqb kind movable) then p else q
-
-  put_at_is : (kind : ℕ) → put_at kind m t ≡ choice kind (lowest_place m (free_ordinary m t)) (lowest_place m (free_in_area m t))
+  for_first : (kind : ℕ) → (is_place m (lowest_place m (free_ordinary m t)) || not (eqb kind movable)) ≡ true → place_for kind m t ≡ below (free_ordinary m t)
   unfolding put_at
-  put_at_is kind = refl
+  for_first kind e = rw e refl
 
-  put_at_scan : (kind : ℕ) (p : Place) → p ≡ ordinary_scan → put_at kind m t ≡ choice kind p (lowest_place m (free_in_area m t))
-  put_at_scan kind p e = put_at_is kind ∙ ap (λ (x : Place). choice kind x (lowest_place m (free_in_area m t))) (sym (e ∙ scan_ordinary))
+  for_second : (kind : ℕ) → (is_place m (lowest_place m (free_ordinary m t)) || not (eqb kind movable)) ≡ false → place_for kind m t ≡ below (free_in_area m t)
+  unfolding put_at
+  for_second kind e = rw e refl
 
-  choose_first : (kind : ℕ) (p q : Place) → (is_place m p || not (eqb kind movable)) ≡ true → choice kind p q ≡ p
-  choose_first kind p q e = rw e
-
-  choose_second : (kind : ℕ) (p q : Place) → (is_place m p || not (eqb kind movable)) ≡ false → choice kind p q ≡ q
-  choose_second kind p q e = rw e
-
-  pub put_at_found : (kind : ℕ) (p : Place) → p ≡ ordinary_scan → p.0 < length t.marks → put_at kind m t ≡ p
-  put_at_found kind p e h =
-      put_at_scan kind p e ∙ choose_first kind p _ (or_left_true (is_place m p) _ (lt-ltb p.0 m.memory.frames (omega (arith, lengths))))
-
-  pub put_at_fixed : (kind : ℕ) (p : Place) → p ≡ ordinary_scan → (kind ≡ movable → ⊥) → put_at kind m t ≡ p
-  put_at_fixed kind p e ne = put_at_scan kind p e ∙ choose_first kind p _ (or_right_true (is_place m p) _ (ap not (ne_eqb kind movable ne)))
+  pub place_ordinary : (kind : Kind) → (kind ≡ Movable → ⊥) → ordinary_scan ≡ place_for (kind_number kind) m t
+  place_ordinary kind ne =
+      scan_ordinary ∙ sym (for_first (kind_number kind) (or_right_true (is_place m _) _ (ap not (not_movable kind ne))))
 
   -- with no free ordinary frame, the lowest free frame is the lowest free frame of an area
-  none_ordinary : (p : Place) → p ≡ ordinary_scan → length t.marks ≤ p.0 → (k : ℕ) → k < m.memory.frames → free_ordinary m t (place k) ≡ false
-  none_ordinary p e h k l =
-      found_low (λ i. free_ordinary m t (place i)) m.memory.frames k (omega (arith, lengths, ap (λ (q : Place). q.0) (e ∙ scan_ordinary)))
-
   in_area_is : (k : ℕ) → free_ordinary m t (place k) ≡ false → has_kind free (mark_at t (place k)) ≡ free_in_area m t (place k)
   unfolding free_ordinary free_in_area
   in_area_is k =
       by_cases (has_kind free (mark_at t (place k))) (λ a. rw a (λ b. rw b refl)) (λ a. rw a (λ b. refl))
 
-  pub put_at_area : (kind : ℕ) (p q : Place) → p ≡ ordinary_scan → length t.marks ≤ p.0 → kind ≡ movable →
-      q ≡ place (lowest (marked (has_kind free) t.marks) (length t.marks)) → put_at kind m t ≡ q
-  put_at_area kind p q e h k f =
-      put_at_scan kind p e ∙
-      choose_second kind p _ (or_neither (is_place m p) _ (le-ltb p.0 m.memory.frames (omega (arith, lengths))) (ap not (eq-eqb kind movable k))) ∙
-      ap place
-      (sym (found_cong (marked (has_kind free) t.marks) (λ i. free_in_area m t (place i)) m.memory.frames (λ i l. in_area_is i (none_ordinary p e h i l)))) ∙
-      ap (λ (n : ℕ). place (lowest (marked (has_kind free) t.marks) n)) (sym lengths) ∙ sym f
+  abbrev free_scan : Option Place
+  free_scan = place_below (lowest (marked (has_kind free) t.marks) (length t.marks)) (length t.marks)
+
+  in_areas_all : is_place m (lowest_place m (free_ordinary m t)) ≡ false → free_scan ≡ below (free_in_area m t)
+  in_areas_all e =
+      scan_below (λ p. has_kind free (mark_at t p)) ∙
+      ap (λ (n : ℕ). if is_place m (place n) then Some (place n) else None)
+      (found_cong (marked (has_kind free) t.marks) (λ i. free_in_area m t (place i)) m.memory.frames
+      (λ k l. in_area_is k (found_low (λ i. free_ordinary m t (place i)) m.memory.frames k (omega (arith, ltb-false _ _ e)))))
+
+  -- a movable page takes a free ordinary frame or else any free one
+  pub place_movable : (kind : Kind) → kind ≡ Movable → {o s : Option Place} → s ≡ ordinary_scan →
+      (s ≡ None → o ≡ free_scan) → ((p : Place) → s ≡ Some p → o ≡ Some p) → o ≡ place_for (kind_number kind) m t
+  place_movable kind k {o} {s} e none some =
+      by_cases (is_place m (lowest_place m (free_ordinary m t)))
+      (λ l.
+      let known : below (free_ordinary m t) ≡ Some (lowest_place m (free_ordinary m t)) = rw l refl in
+      some _ (e ∙ scan_ordinary ∙ known) ∙ sym known ∙ sym (for_first (kind_number kind) (or_left_true (is_place m _) _ l)))
+      (λ l.
+      let known : below (free_ordinary m t) ≡ None = rw l refl in
+      none (e ∙ scan_ordinary ∙ known) ∙ in_areas_all l ∙
+      sym (for_second (kind_number kind) (or_neither (is_place m _) _ l (ap (λ (x : Kind). not (eqb (kind_number x) movable)) k))))
+
+  pub place_inside : (kind : ℕ) {o : Option Place} → o ≡ place_for kind m t → IfSome o (λ page. (page.0 < length t.marks) × (page.0 < length t.words))
+  place_inside kind e =
+      let k = shape_known m t shape in
+      rw e
+      (by_cases (is_place m (put_at kind m t))
+      (λ h. let low : (put_at kind m t).0 < m.memory.frames = ltb-true _ _ h in rw h (omega (arith, k.marks_length), omega (arith, k.words_length)))
+      (λ h. rw h tt))
 
 -- ---- the call
 module _ (kind : ℕ) (m : Record) (name : ℕ) (t : Tables) where
-  pub put_live : {p : Place} → look_up m name t ≡ At p → put_page kind m name t ≡ refuse m t 4
+  pub put_refused : {r : Refusal} → Err r ≡ find_named m name t → refuse m t (number_of r) ≡ put_page kind m name t
   unfolding put_page
-  put_live e = looked_live m name t e _ _
+  put_refused e = sym (put_not m name t (named m name t e) _ _)
 
-  pub put_refused : {n : ℕ} → look_up m name t ≡ Not n → (n ≡ 3 → ⊥) → put_page kind m name t ≡ refuse m t n
+  pub put_live : (o : Option Place) → Ok o ≡ find_named m name t → true ≡ is_some o → refuse m t 4 ≡ put_page kind m name t
   unfolding put_page
-  put_refused e ne = looked_refused m name t e ne _ _
+  put_live (Some p) e h = sym (put_stopped m name t (named m name t e) _ _)
+  put_live None e h = absurd (false≢true (sym h))
 
-  pub put_full : look_up m name t ≡ Not 3 → length t.marks ≤ (put_at kind m t).0 → put_page kind m name t ≡ refuse m t 6
-  unfolding put_page
-  put_full e h =
-      let k = looked_missing m name t e in
-      k.pass _ _ ∙ checked_stop m t _ _ _ (ap not (le-ltb (put_at kind m t).0 m.memory.frames (omega (arith, k.shape.marks_length))))
+  -- the name is free
+  module _ (o : Option Place) (e : Ok o ≡ find_named m name t) (h : false ≡ is_some o) where
+    passes : Named m name t (Ok None)
+    passes = named m name t (ap Ok (sym (none_is o h)) ∙ e)
 
-  pub put_done : look_up m name t ≡ Not 3 → (p : Place) → p ≡ put_at kind m t → p.0 < length t.marks → (mark : ℕ) → mark ≡ mark_of name kind →
-      (words : List ℕ) → words ≡ fill t.words p.0 1 0 → (f : Frame) → f ≡ frame (min (m.memory.base.0 + p.0) most_number) →
-      put_page kind m name t ≡ outcome m (done f.0 0) (tables (set t.marks p.0 mark) words t.bitmap t.owners)
-  unfolding put_page fill
-  put_done e p q h mark v words x f w =
-      let k = looked_missing m name t e in
-      k.pass _ _ ∙
-      checked_pass m t _ _ _ (ap not (lt-ltb (put_at kind m t).0 m.memory.frames (omega (arith, k.shape.marks_length, ap (λ (x : Place). x.0) q)))) ∙
-      checked_end m t _ ∙ ap₂ (λ x y. outcome m (done (frame_at m x).0 0) (set_page t x y 0)) (sym q) (sym v) ∙
-      ap₂ (λ (g : Frame) (ws : List ℕ). outcome m (done g.0 0) (tables (set t.marks p.0 mark) ws t.bitmap t.owners))
-      (sym (w ∙ frame_inside k.shape p (omega (arith, k.shape.marks_length)))) (sym x)
+    full : None ≡ place_for kind m t → refuse m t 6 ≡ put_page kind m name t
+    unfolding put_page
+    full none =
+        by_cases (is_place m (put_at kind m t))
+        (λ l. let z : None ≡ Some (put_at kind m t) = none ∙ (rw l refl) in cc)
+        (λ l. sym (put_passed m name t passes _ _ ∙ checked_stop m t _ _ _ (ap not l)))
+
+    pub put_full : (p : Option Place) → p ≡ place_for kind m t → {r : Refusal} → Err r ≡ ok_or p NoFrame → refuse m t (number_of r) ≡ put_page kind m name t
+    put_full (Some p) some x = let z : ◌≡◌ {A = ℕ} 0 1 = cc in absurd (omega arith)
+    put_full None none {r} x = let e : r ≡ NoFrame = cc in ap (λ y. refuse m t (number_of y)) e ∙ full none
+
+    pub put_done : shape_right m t ≡ true → {p : Place} → Some p ≡ place_for kind m t → {mark : ℕ} → mark ≡ mark_of name kind →
+        {f : Frame} → f ≡ frame (min (m.memory.base.0 + p.0) most_number) →
+        outcome m (done f.0 0) (tables (set t.marks p.0 mark) (set t.words p.0 0) t.bitmap t.owners) ≡ put_page kind m name t
+    unfolding put_page
+    put_done s {p} some {mark} v {f} w =
+        by_cases (is_place m (put_at kind m t))
+        (λ l.
+        let at : Some p ≡ Some (put_at kind m t) = some ∙ (rw l refl) in
+        let q : p ≡ put_at kind m t = cc in
+        let inside : (put_at kind m t).0 < m.memory.frames = ltb-true _ _ l in
+        ap (λ (g : Frame). outcome m (done g.0 0) (tables (set t.marks p.0 mark) (set t.words p.0 0) t.bitmap t.owners))
+        (w ∙ frame_inside (shape_known m t s) p (subst (λ (x : Place). x.0 < m.memory.frames) (sym q) inside)) ∙
+        ap₂ (λ (x : Place) (y : ℕ). outcome m (done (frame_at m x).0 0) (set_page t x y 0)) q v ∙
+        sym (put_passed m name t passes _ _ ∙ checked_pass m t _ _ _ (ap not l) ∙ checked_end m t _))
+        (λ l. let z : Some p ≡ None = some ∙ (rw l refl) in cc)

@@ -1,316 +1,150 @@
-// The page calls: put movable, put fixed, drop, pin, unpin, store and read, over memory and the tables lent.
+// The page calls: put, drop, pin and unpin, store and read, over the record and the tables lent.
 //
 // Each takes any record, any number and any tables, and checks the shape first. None changes the record, so each hands back its answer
 // alone. A refused call has changed nothing.
 #![tactic(auto)]
 
-ghost use Rattle.std.specs.Prelude.{◌≡◌, true, ◌<◌};
-ghost use Rattle.frames.specs.Tables.{tables};
-ghost use Rattle.frames.specs.Lent.{entering, lent_now, slice_of};
-ghost use Rattle.frames.specs.Marks.{kinds};
-ghost use Rattle.rules.specs.PageCalls.{bad_name, put_at, put_page, put_movable, put_fixed, drop_page, change_kind, pin_page, unpin_page, store_page, read_page};
+ghost use Rattle.std.specs.Prelude.{◌≡◌, ◌<◌, ◌≤◌, true, length, IfOk, IfSome};
+ghost use Rattle.frames.specs.Lent.{tables_in};
+ghost use Rattle.frames.specs.Marks.{kind_number};
+ghost use Rattle.rules.specs.Limits.{most_name};
+ghost use Rattle.rules.specs.PageCalls.{bad_name, put_page, drop_page, change_kind, store_page, read_page};
 ghost use Rattle.rules.specs.Shape.{shape_right};
-ghost use Rattle.rules.specs.Does.{record_with, given, Answers};
-ghost use Rattle.page_calls.specs.Steps.Look.{look_up};
-ghost use Rattle.page_calls.specs.declared.Found.TheVariants.{Not};
+ghost use Rattle.rules.specs.Does.{record_in, Answers};
+ghost use Rattle.page_calls.specs.Steps.Look.{find_named, look_up, place_for};
 
-use answer::{Answer, refusal};
-use frames::kinds::{FIXED, MOVABLE, PINNED};
-use frames::{Place, fill_words, find_free, find_free_ordinary, find_page, frame_at};
-use rules::{Memory, Record};
+use answer::{Numbers, Refusal};
+use frames::{Kind, LentTables, Place, find_free, find_free_ordinary, find_page, frame_at};
+use rules::{LentRecord, Record};
 use shape::shape_right;
 
 // The content word of a page to which nothing has been stored.
 const EMPTY: u64 = 0;
 
-// What a call finds of the page that it names: where it stands, or why the call is refused.
-#[derive(Clone, Copy)]
-enum Found {
-    At(Place),
-    Not(u64),
-}
-
 // A page name is outside its range.
 fn is_bad_name(name: u64) -> bool
     ensures { result ≡ bad_name name }
 {
-    if name < Record::LEAST_NAME {
-        return true;
-    }
-    Record::MOST_NAME < name
+    !(Record::LEAST_NAME..=Record::MOST_NAME).contains(&name)
 }
 
-// The checks that come first for every page that is looked up: the shape, the name's range, and that the page is live.
-fn look_up(
-    memory: Memory,
-    areas: &[u64],
-    marks: &[u32],
-    words: &[u64],
-    bitmap: &[u64],
-    owners: &[u32],
-    name: u64,
-) -> Found
-    ensures { result ≡ look_up (given memory areas) name (entering marks words bitmap owners) }
+// The checks that come first for every page that is named: the shape, and the name's range. Then where the page stands, if it is live.
+fn find_named(lent: LentRecord, tables: &LentTables, name: u64) -> Result<Option<Place>, Refusal>
+    ensures found { result ≡ find_named (record_in lent.entry) name (tables_in tables.now) }
+    ensures passed { IfOk result (λ _. (shape_right (record_in lent.entry) (tables_in tables.now) ≡ true) × (name ≤ most_name)) }
 {
-    if !shape_right(memory, areas, marks, words, bitmap, owners) {
-        return Found::Not(refusal::WRONG_SHAPE);
+    if !shape_right(lent, tables) {
+        return Err(Refusal::WrongShape);
     }
     if is_bad_name(name) {
-        return Found::Not(refusal::OUT_OF_RANGE);
+        return Err(Refusal::OutOfRange);
     }
-    let page = find_page(marks, name);
-    if page.0 < marks.len() {
-        return Found::At(page);
-    }
-    Found::Not(refusal::NOT_LIVE)
+    Ok(find_page(tables.marks, name))
+}
+
+// The same of a page that has to be live.
+fn look_up(lent: LentRecord, tables: &LentTables, name: u64) -> Result<Place, Refusal>
+    ensures found { result ≡ look_up (record_in lent.entry) name (tables_in tables.now) }
+    ensures inside { IfOk result (λ page. (page.0 < length tables.now.marks.now) × (page.0 < length tables.now.words.now) × (name ≤ most_name)) }
+{
+    find_named(lent, tables, name)?.ok_or(Refusal::NotLive)
 }
 
 // The place that a put takes: the lowest free ordinary frame; a movable page with none left takes the lowest free frame of an area,
 // which is then the lowest free frame of all.
-fn put_at(
-    memory: Memory,
-    areas: &[u64],
-    marks: &[u32],
-    words: &[u64],
-    bitmap: &[u64],
-    owners: &[u32],
-    kind: u32,
-) -> Place
-    requires { shape_right (record_with memory areas.now) (lent_now marks words bitmap owners) ≡ true }
-    ensures { result ≡ put_at kind (given memory areas) (entering marks words bitmap owners) }
+fn place_for(lent: LentRecord, tables: &LentTables, kind: Kind) -> Option<Place>
+    requires { shape_right (record_in lent) (tables_in tables.now) ≡ true }
+    ensures found { result ≡ place_for (kind_number kind) (record_in lent.entry) (tables_in tables.now) }
+    ensures inside { IfSome result (λ page. (page.0 < length tables.now.marks.now) × (page.0 < length tables.now.words.now)) }
 {
-    let ordinary = find_free_ordinary(marks, memory.base, areas, memory.declared);
-    if ordinary.0 < marks.len() {
+    let memory = lent.memory;
+    let ordinary = find_free_ordinary(tables.marks, memory.base, lent.areas, memory.declared);
+    if kind != Kind::Movable {
         return ordinary;
     }
-    if kind != MOVABLE {
-        return ordinary;
+    ordinary.or_else(|| find_free(tables.marks))
+}
+
+// A page of a kind is put: no area takes one that is fixed.
+pub fn put_page(
+    lent: LentRecord,
+    tables: &mut LentTables,
+    name: u64,
+    kind: Kind,
+) -> Result<Numbers, Refusal>
+    ensures { Answers (λ m. put_page (kind_number kind) m name) lent.entry result tables.old tables.new }
+{
+    if find_named(lent, tables, name)?.is_some() {
+        return Err(Refusal::NameLive);
     }
-    find_free(marks)
-}
-
-// A put of a name that is not live, after its first three checks.
-fn put_new(
-    memory: Memory,
-    areas: &[u64],
-    marks: &mut [u32],
-    words: &mut [u64],
-    bitmap: &[u64],
-    owners: &[u32],
-    name: u64,
-    kind: u32,
-) -> Answer
-    requires owners_value { look_up (record_with memory areas.now) name (tables marks.old words.old bitmap.now owners.now) ≡ Not 3 }
-    requires kind_lt_kinds { kind < kinds }
-    ensures { Answers (λ m. put_page kind m name) memory areas result (slice_of marks) (slice_of words) bitmap owners }
-{
-    let page = put_at(memory, areas, marks, words, bitmap, owners, kind);
-    let at = page.0;
-    if marks.len() <= at {
-        return Answer::refused(refusal::NO_FRAME);
-    }
-    marks[at] = name as u32 * 8 + kind;
-    fill_words(words, page, 1, EMPTY);
-    let base = memory.base;
-    let frame = frame_at(base, page);
-    Answer::done(frame.0, 0)
-}
-
-// A page of a kind is put.
-fn put_page(
-    memory: Memory,
-    areas: &[u64],
-    marks: &mut [u32],
-    words: &mut [u64],
-    bitmap: &[u64],
-    owners: &[u32],
-    name: u64,
-    kind: u32,
-) -> Answer
-    requires { kind < kinds }
-    ensures { Answers (λ m. put_page kind m name) memory areas result (slice_of marks) (slice_of words) bitmap owners }
-{
-    let found = look_up(memory, areas, marks, words, bitmap, owners, name);
-    match found {
-        Found::At(_) => Answer::refused(refusal::NAME_LIVE),
-        Found::Not(number) => {
-            if number != refusal::NOT_LIVE {
-                return Answer::refused(number);
-            }
-            put_new(memory, areas, marks, words, bitmap, owners, name, kind)
-        }
-    }
-}
-
-// A movable page is put.
-pub fn put_movable(
-    memory: Memory,
-    areas: &[u64],
-    marks: &mut [u32],
-    words: &mut [u64],
-    bitmap: &[u64],
-    owners: &[u32],
-    name: u64,
-) -> Answer
-    ensures { Answers (λ m. put_movable m name) memory areas result (slice_of marks) (slice_of words) bitmap owners }
-{
-    put_page(memory, areas, marks, words, bitmap, owners, name, MOVABLE)
-}
-
-// A fixed page is put, which no area takes.
-pub fn put_fixed(
-    memory: Memory,
-    areas: &[u64],
-    marks: &mut [u32],
-    words: &mut [u64],
-    bitmap: &[u64],
-    owners: &[u32],
-    name: u64,
-) -> Answer
-    ensures { Answers (λ m. put_fixed m name) memory areas result (slice_of marks) (slice_of words) bitmap owners }
-{
-    put_page(memory, areas, marks, words, bitmap, owners, name, FIXED)
+    let page = place_for(lent, tables, kind).ok_or(Refusal::NoFrame)?;
+    tables.marks[page.0] = kind.mark(name as u32);
+    tables.words[page.0] = EMPTY;
+    let taken = frame_at(lent.memory.base, page);
+    Ok(Numbers {
+        first: taken.0,
+        second: 0,
+    })
 }
 
 // A page is gone from its frame, unless it is pinned.
-pub fn drop_page(
-    memory: Memory,
-    areas: &[u64],
-    marks: &mut [u32],
-    words: &mut [u64],
-    bitmap: &[u64],
-    owners: &[u32],
-    name: u64,
-) -> Answer
-    ensures { Answers (λ m. drop_page m name) memory areas result (slice_of marks) (slice_of words) bitmap owners }
+pub fn drop_page(lent: LentRecord, tables: &mut LentTables, name: u64) -> Result<Numbers, Refusal>
+    ensures { Answers (λ m. drop_page m name) lent.entry result tables.old tables.new }
 {
-    let found = look_up(memory, areas, marks, words, bitmap, owners, name);
-    match found {
-        Found::Not(number) => Answer::refused(number),
-        Found::At(page) => {
-            let at = page.0;
-            let mark = marks[at];
-            if mark % 8 == PINNED {
-                return Answer::refused(refusal::KIND_FORBIDS);
-            }
-            marks[at] = 0;
-            words[at] = 0;
-            Answer::done(0, 0)
-        }
+    let page = look_up(lent, tables, name)?;
+    let mark = tables.marks[page.0];
+    if Kind::Pinned.is_of(mark) {
+        return Err(Refusal::KindForbids);
     }
+    tables.marks[page.0] = Kind::Free.mark(0);
+    tables.words[page.0] = 0;
+    Ok(Numbers::NONE)
 }
 
-// A page of one kind becomes one of another.
-fn change_kind(
-    memory: Memory,
-    areas: &[u64],
-    marks: &mut [u32],
-    words: &[u64],
-    bitmap: &[u64],
-    owners: &[u32],
+// A page of one kind becomes one of another: a movable one is pinned, so that nobody may move, rewrite or drop it, or a pinned one is movable
+// again.
+pub fn change_kind(
+    lent: LentRecord,
+    tables: &mut LentTables,
     name: u64,
-    from: u32,
-    to: u32,
-) -> Answer
-    requires { to < kinds }
-    ensures { Answers (λ m. change_kind from to m name) memory areas result (slice_of marks) words bitmap owners }
+    from: Kind,
+    to: Kind,
+) -> Result<Numbers, Refusal>
+    ensures { Answers (λ m. change_kind (kind_number from) (kind_number to) m name) lent.entry result tables.old tables.new }
 {
-    let found = look_up(memory, areas, marks, words, bitmap, owners, name);
-    match found {
-        Found::Not(number) => Answer::refused(number),
-        Found::At(page) => {
-            let at = page.0;
-            let mark = marks[at];
-            if mark % 8 != from {
-                return Answer::refused(refusal::KIND_FORBIDS);
-            }
-            marks[at] = mark / 8 * 8 + to;
-            Answer::done(0, 0)
-        }
+    let page = look_up(lent, tables, name)?;
+    if !from.is_of(tables.marks[page.0]) {
+        return Err(Refusal::KindForbids);
     }
-}
-
-// A movable page is pinned: nobody may move, rewrite or drop it.
-pub fn pin_page(
-    memory: Memory,
-    areas: &[u64],
-    marks: &mut [u32],
-    words: &[u64],
-    bitmap: &[u64],
-    owners: &[u32],
-    name: u64,
-) -> Answer
-    ensures { Answers (λ m. pin_page m name) memory areas result (slice_of marks) words bitmap owners }
-{
-    change_kind(
-        memory, areas, marks, words, bitmap, owners, name, MOVABLE, PINNED,
-    )
-}
-
-// A pinned page is movable again.
-pub fn unpin_page(
-    memory: Memory,
-    areas: &[u64],
-    marks: &mut [u32],
-    words: &[u64],
-    bitmap: &[u64],
-    owners: &[u32],
-    name: u64,
-) -> Answer
-    ensures { Answers (λ m. unpin_page m name) memory areas result (slice_of marks) words bitmap owners }
-{
-    change_kind(
-        memory, areas, marks, words, bitmap, owners, name, PINNED, MOVABLE,
-    )
+    tables.marks[page.0] = to.mark(name as u32);
+    Ok(Numbers::NONE)
 }
 
 // The word becomes the page's, unless it is pinned.
 pub fn store_page(
-    memory: Memory,
-    areas: &[u64],
-    marks: &[u32],
-    words: &mut [u64],
-    bitmap: &[u64],
-    owners: &[u32],
+    lent: LentRecord,
+    tables: &mut LentTables,
     name: u64,
     word: u64,
-) -> Answer
-    ensures { Answers (λ m. store_page m name word) memory areas result marks (slice_of words) bitmap owners }
+) -> Result<Numbers, Refusal>
+    ensures { Answers (λ m. store_page m name word) lent.entry result tables.old tables.new }
 {
-    let found = look_up(memory, areas, marks, words, bitmap, owners, name);
-    match found {
-        Found::Not(number) => Answer::refused(number),
-        Found::At(page) => {
-            let at = page.0;
-            if marks[at] % 8 == PINNED {
-                return Answer::refused(refusal::KIND_FORBIDS);
-            }
-            fill_words(words, page, 1, word);
-            Answer::done(0, 0)
-        }
+    let page = look_up(lent, tables, name)?;
+    if Kind::Pinned.is_of(tables.marks[page.0]) {
+        return Err(Refusal::KindForbids);
     }
+    tables.words[page.0] = word;
+    Ok(Numbers::NONE)
 }
 
 // The page's frame and its word.
-pub fn read_page(
-    memory: Memory,
-    areas: &[u64],
-    marks: &[u32],
-    words: &[u64],
-    bitmap: &[u64],
-    owners: &[u32],
-    name: u64,
-) -> Answer
-    ensures { Answers (λ m. read_page m name) memory areas result marks words bitmap owners }
+pub fn read_page(lent: LentRecord, tables: &LentTables, name: u64) -> Result<Numbers, Refusal>
+    ensures { Answers (λ m. read_page m name) lent.entry result tables.now tables.now }
 {
-    let found = look_up(memory, areas, marks, words, bitmap, owners, name);
-    match found {
-        Found::Not(number) => Answer::refused(number),
-        Found::At(page) => {
-            let base = memory.base;
-            let frame = frame_at(base, page);
-            let place = page.0;
-            Answer::done(frame.0, words[place])
-        }
-    }
+    let page = look_up(lent, tables, name)?;
+    let frame = frame_at(lent.memory.base, page);
+    Ok(Numbers {
+        first: frame.0,
+        second: tables.words[page.0],
+    })
 }

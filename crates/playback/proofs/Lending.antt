@@ -1,6 +1,6 @@
 -- How many frames a call is lent tables for, and what it is answered, by the lengths of the tables. Assumes nothing.
 --     not_boot                any call but a boot is lent tables for the machine's frames
---     nothing_beside          a call that is lent neither a text nor a buffer has no bytes beside it
+--     bare                    a call that is lent the numbers of all areas and neither a text nor a buffer is made with no bytes beside it
 --     few_marks, few_words, few_owners    fewer entries than frames: refused with 1
 --     enough                  else the call is made on the entries that are lent
 --     answered                so what a call leaves of those entries, with the entries after them, is the answer
@@ -47,8 +47,11 @@ not_boot memory (Call.Boot base frames block_order) h = absurd (h base frames bl
 not_boot memory Call.Report h = refl
 
 -- no text and no buffer: no bytes
-pub nothing_beside : (call : Call) → beside call [] [] ≡ []
+nothing_beside : (call : Call) → beside call [] [] ≡ []
 nothing_beside call = by_cases (role_of call).is_report (λ e. rw e) (λ e. rw e)
+
+pub bare : (call : Call) (m : Record) (t : Tables) → length m.areas ≡ most_area_numbers → with_all_areas (perform call (beside call [] [])) m t ≡ perform call [] m t
+bare call m t all = ap (λ (bytes : List ℕ). with_all_areas (perform call bytes) m t) (nothing_beside call) ∙ sym (asked (perform call []) m t all)
 
 module _ (call : Call) (m : Record) (t : Tables) where
   pub few_marks : length t.marks < frames_for m.memory call → answer_to call m t ≡ refuse m t 1
@@ -87,11 +90,10 @@ module _ (call : Call) (m : Record) (t : Tables) where
 
   pub answered :
       (n : ℕ) (after : Record) (r : Answer) (marks words bitmap owners : List ℕ)
-      → length m.areas ≡ most_area_numbers
       → n ≡ frames_for m.memory call → n ≤ length t.marks → n ≤ length t.words → n ≤ length t.owners
-      → outcome after r (tables marks words bitmap owners) ≡ with_all_areas (perform call (beside call [] [])) m (entries_for n t)
+      → outcome after r (tables marks words bitmap owners) ≡ perform call [] m (entries_for n t)
       → outcome after r (tables (marks ++ drop n t.marks) (words ++ drop n t.words) bitmap (owners ++ drop n t.owners)) ≡ answer_to call m t
-  answered n after r marks words bitmap owners all e h k o made_it =
-      ap (λ (w : Outcome). outcome w.machine w.answer (with_entries n t w.left)) (made_it ∙ ap (λ (bytes : List ℕ). with_all_areas (perform call bytes) m (entries_for n t)) (nothing_beside call) ∙ sym (asked (perform call []) m (entries_for n t) all))
+  answered n after r marks words bitmap owners e h k o made_it =
+      ap (λ (w : Outcome). outcome w.machine w.answer (with_entries n t w.left)) made_it
       ∙ ap (λ (f : ℕ). around f) e
       ∙ sym (enough (rw e at h) (rw e at k) (rw e at o))

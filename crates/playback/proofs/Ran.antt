@@ -9,8 +9,9 @@ use lib.ListN.{length, length-append, length-take}
 use borrow.Author.Tests.{le-leb, lt-leb}
 use Rattle.search.proofs.Bools.{by_cases, below_or_not}
 use Rattle.rules.specs.declared.Call.{Call}
-use Rattle.records.specs.declared.Decoded.{Decoded}
-use Rattle.records.specs.declared.Decoded.TheVariants.{Whole, Unknown, Cut}
+use Rattle.std.specs.Prelude.{Result, Ok, Err}
+use Rattle.records.specs.declared.Undecoded.{Undecoded}
+use Rattle.records.specs.declared.Undecoded.TheVariants.{Unknown, Cut}
 use Rattle.records.specs.Records.{decode_at}
 use Rattle.text.specs.Writing.{written}
 use Rattle.records.proofs.Decoding.{whole_within}
@@ -38,16 +39,16 @@ one_step s r n = refl
 module _ (bytes : List ℕ) where
   -- what follows a record that is found, where that holds of what follows it
   follows :
-      (d : Decoded) (s : Playing) (next : Playing → Played) → decode_at bytes s.progress.at ≡ d
+      (d : Result (Call × ℕ) Undecoded) (s : Playing) (next : Playing → Played) → decode_at bytes s.progress.at ≡ d
       → s.progress.at ≤ length bytes → s.progress.text ≤ length s.out
       → ((z : Playing) → z.progress.at ≤ length bytes → z.progress.text ≤ length z.out → Ran (length bytes) z.progress (next z))
       → Ran (length bytes) s.progress (followed d s next)
-  follows (Whole r n) s next e h k rest =
+  follows (Ok (r, n)) s next e h k rest =
       let w = whole_within bytes s.progress.at e in
       let z = rest (answer_one s r n) (omega (arith, one_at s r n)) (one_text s r n k) in
       record { inside = z.inside; steps = omega (arith, z.steps, one_at s r n, one_step s r n); text = z.text }
-  follows Unknown s next e h k rest = record { inside = h; steps = omega arith; text = k }
-  follows Cut s next e h k rest = record { inside = h; steps = omega arith; text = k }
+  follows (Err Unknown) s next e h k rest = record { inside = h; steps = omega arith; text = k }
+  follows (Err Cut) s next e h k rest = record { inside = h; steps = omega arith; text = k }
 
   up_to :
       (more : ℕ) (s : Playing) → s.progress.at ≤ length bytes → s.progress.text ≤ length s.out

@@ -1,11 +1,11 @@
 -- Record after record. Assumes nothing.
 --     one_answered     a call's outcome and its line, appended, are one record's answer
+--     next             what comes next: a record, or the reason that none is answered
+--     Found, found     a record that comes next lies within the bytes, and its line has room
 --     Same             what all records come to is what the rest come to from here on
 --     begins           at the start that is so
---     all, full        it stops where no byte is left, and where there is no room
---     Turn, turn       where neither holds, the record at the place decides
---     unknown, cut     and stops, or
---     whole            is answered, and what holds before it holds after it
+--     ends             where no record comes next, it stops
+--     goes_on          where one does, it is so after that record is answered
 use Prim.Native.Nat.{ℕ, zero, suc, ◌+◌, ◌≤◌, ◌<◌}
 use native.Mathlib.Omega.{arith}
 use mathlib.Core.Path.{◌≡◌, refl, ap, ◌∙◌}
@@ -14,23 +14,26 @@ use mathlib.Core.List.{List}
 use lib.ListN.{length}
 use lib.Dec.{leb, ltb}
 use borrow.Author.Tests.{leb-true, ltb-true, le-leb, lt-leb}
-use Rattle.search.proofs.Bools.{and_left, and_right}
-use Rattle.frames.specs.Tables.{Tables, tables}
-use Rattle.machine.specs.declared.Returned.{Returned}
+use Rattle.search.proofs.Bools.{by_cases, and_left, and_right}
+use Rattle.frames.specs.Tables.{Tables}
+use Rattle.machine.specs.declared.Machine.{Machine}
+use Rattle.answer.specs.declared.Answer.{Answer}
 use Rattle.rules.specs.declared.Call.{Call}
 use Rattle.rules.specs.declared.Counters.{Counters}
 use Rattle.rules.specs.Counters.{counted}
 use Rattle.rules.specs.Outcomes.{Outcome, outcome}
 use Rattle.rules.specs.Does.{record_with}
-use Rattle.records.specs.declared.Decoded.{Decoded}
-use Rattle.records.specs.declared.Decoded.TheVariants.{Whole, Unknown, Cut}
+use Rattle.std.specs.Prelude.{Result, Ok, Err}
+use Rattle.records.specs.declared.Undecoded.{Undecoded}
 use Rattle.records.specs.Records.{decode_at}
 use Rattle.text.specs.Writing.{four_numbers, Appended, has_room, written}
 use Rattle.text.proofs.Texts.{four_most}
-use Rattle.records.proofs.Decoding.{whole_within}
+use Rattle.records.proofs.Decoding.{Within, whole_within}
 use Rattle.playback.specs.declared.Progress.{Progress}
+use Rattle.playback.specs.declared.Stop.{Stop}
 use Rattle.playback.specs.declared.Stop.TheVariants as Stop
-use Rattle.playback.specs.Playback.{answer_to, has_room_for, room, last_step, Playing, playing, line_for, progress_after, answer_one, stop_for, followed, answer_up_to, answer_records}
+use Rattle.playback.specs.Playback.{answer_to, has_room_for, room, last_step, Playing, playing, Played, line_for, progress_after, answer_one, stop_for, followed, answer_up_to, answer_records}
+use Rattle.playback.specs.Steps.Going.{or_stop, next_at}
 
 -- ---- one record
 
@@ -53,23 +56,23 @@ after_line : (p : Progress) (c : Counters) (size next : ℕ) (after : List ℕ) 
 after_line p c size next after o = playing (record { «record» = o.machine; counters = c; at = p.at + size; text = next; step = p.step + 1 }) after o.left
 
 pub one_answered :
-    (p : Progress) (out : List ℕ) (t : Tables) (r : Call) (size : ℕ) (o : Returned) (areas marks words bitmap owners after : List ℕ) (next : ℕ)
+    (p : Progress) (out : List ℕ) (t : Tables) (r : Call) (size : ℕ) (m : Machine) (a : Answer) (areas : List ℕ) (left : Tables) (after : List ℕ) (next : ℕ)
     → has_room_for (length out) p.text p.step ≡ true
-    → outcome (record_with o.machine.memory areas) o.answer (tables marks words bitmap owners) ≡ answer_to r p.«record» t
-    → o.machine.counters ≡ counted r o.answer.refusal p.counters
-    → Appended out p.text (four_numbers p.step o.answer.refusal o.answer.first o.answer.second) after next
-    → playing (record { «record» = record_with o.machine.memory areas; counters = o.machine.counters; at = p.at + size; text = next; step = p.step + 1 }) after (tables marks words bitmap owners)
+    → outcome (record_with m.memory areas) a left ≡ answer_to r p.«record» t
+    → m.counters ≡ counted r a.refusal p.counters
+    → Appended out p.text (line_for p.step a) after next
+    → playing (record { «record» = record_with m.memory areas; counters = m.counters; at = p.at + size; text = next; step = p.step + 1 }) after left
     ≡ answer_one (playing p out t) r size
 unfolding answer_one after_line
-one_answered p out t r size o areas marks words bitmap owners after next h e k a =
-    let fits = line_has_room out p o.answer.refusal o.answer.first o.answer.second h in
-    let place = rw fits at a.place in
-    let bytes = rw fits at a.bytes in
-    let made = outcome (record_with o.machine.memory areas) o.answer (tables marks words bitmap owners) in
+one_answered p out t r size m a areas left after next h e k w =
+    let fits = line_has_room out p a.refusal a.first a.second h in
+    let place = rw fits at w.place in
+    let bytes = rw fits at w.bytes in
+    let made = outcome (record_with m.memory areas) a left in
     ap (λ (c : Counters). after_line p c size next after made) k
-    ∙ ap (λ (n : ℕ). after_line p (counted r o.answer.refusal p.counters) size n after made) place
-    ∙ ap (λ (l : List ℕ). after_line p (counted r o.answer.refusal p.counters) size (p.text + length (line_for p.step o.answer)) l made) bytes
-    ∙ ap (λ (w : Outcome). playing (progress_after p r w size) (written out p.text (line_for p.step w.answer)) w.left) e
+    ∙ ap (λ (n : ℕ). after_line p (counted r a.refusal p.counters) size n after made) place
+    ∙ ap (λ (l : List ℕ). after_line p (counted r a.refusal p.counters) size (p.text + length (line_for p.step a)) l made) bytes
+    ∙ ap (λ (o : Outcome). playing (progress_after p r o size) (written out p.text (line_for p.step o.answer)) o.left) e
 
 pub one_at : (s : Playing) (r : Call) (size : ℕ) → (answer_one s r size).progress.at ≡ s.progress.at + size
 unfolding answer_one
@@ -77,63 +80,83 @@ one_at s r size = refl
 
 -- ---- all of them
 
-module _ (bytes : List ℕ) (start : Playing) where
-  pub record Same (s : Playing) : Type 0 where
-    pub more : ℕ
-    pub enough : length bytes ≤ s.progress.at + more
-    pub same : answer_records bytes start ≡ answer_up_to more bytes s
+module _ (bytes : List ℕ) where
+  -- what comes next
+  abbrev pub next : Playing → Result (Call × ℕ) Stop
+  next s = next_at bytes s.progress.at (length s.out) s.progress.text s.progress.step
 
-  pub begins : Same start
-  unfolding answer_records
-  begins = record { more = length bytes; enough = omega arith; same = refl }
+  next_past : (s : Playing) → length bytes ≤ s.progress.at → next s ≡ Err Stop.All
+  next_past s h = rw (le-leb (length bytes) s.progress.at h)
 
-  stops : (more : ℕ) (s : Playing) → length bytes ≤ s.progress.at → answer_up_to more bytes s ≡ stop_for Stop.All s
+  -- a record that comes next has room for its line, and was decoded
+  pub record Found (s : Playing) (r : Call) (n : ℕ) : Type 0 where
+    pub room : has_room_for (length s.out) s.progress.text s.progress.step ≡ true
+    pub within : Within bytes s.progress.at n
+
+  decoded : (d : Result (Call × ℕ) Undecoded) {r : Call} {n : ℕ} → or_stop d ≡ Ok (r, n) → d ≡ Ok (r, n)
+  decoded (Ok (q, m)) e = cc
+  decoded (Err why) e = absurd (let f : ◌≡◌ {A = ℕ} 0 1 = cc in omega arith)
+
+  pub found : {s : Playing} {r : Call} {n : ℕ} → next s ≡ Ok (r, n) → Found s r n
+  found {s} {r} {n} e =
+      by_cases (leb (length bytes) s.progress.at)
+      (λ y. absurd (let g = rw y at e in let f : ◌≡◌ {A = ℕ} 0 1 = cc in omega arith))
+      (λ k.
+      by_cases (has_room_for (length s.out) s.progress.text s.progress.step)
+      (λ y. record { room = y; within = whole_within bytes s.progress.at (decoded (decode_at bytes s.progress.at) (rw (k, y) at e)) })
+      (λ z. absurd (let g = rw (k, z) at e in let f : ◌≡◌ {A = ℕ} 0 1 = cc in omega arith)))
+
+  -- what follows from what comes next
+  abbrev stepped : Result (Call × ℕ) Stop → Playing → (Playing → Played) → Played
+  stepped (Ok (call, size)) s go = go (answer_one s call size)
+  stepped (Err why) s go = stop_for why s
+
+  followed_stepped : (d : Result (Call × ℕ) Undecoded) (s : Playing) (go : Playing → Played) → followed d s go ≡ stepped (or_stop d) s go
+  followed_stepped (Ok (r, n)) s go = refl
+  followed_stepped (Err why) s go = refl
+
+  one_turn : (more : ℕ) (s : Playing) → answer_up_to (suc more) bytes s ≡ stepped (next s) s (answer_up_to more bytes)
   unfolding answer_up_to
-  stops zero s h = refl
-  stops (suc more) s h = rw (le-leb (length bytes) s.progress.at h)
+  one_turn more s =
+      by_cases (leb (length bytes) s.progress.at)
+      (λ y. rw y)
+      (λ k.
+      by_cases (has_room_for (length s.out) s.progress.text s.progress.step)
+      (λ y. rw (k, y) (followed_stepped (decode_at bytes s.progress.at) s (answer_up_to more bytes)))
+      (λ z. rw (k, z)))
 
-  pub all : (s : Playing) → Same s → length bytes ≤ s.progress.at → answer_records bytes start ≡ stop_for Stop.All s
-  all s i h = i.same ∙ stops i.more s h
-
-  fills :
-      (more : ℕ) (s : Playing) → length bytes ≤ s.progress.at + more → s.progress.at < length bytes
-      → has_room_for (length s.out) s.progress.text s.progress.step ≡ false → answer_up_to more bytes s ≡ stop_for Stop.Full s
+  stops : (more : ℕ) (s : Playing) (why : Stop) → length bytes ≤ s.progress.at + more → next s ≡ Err why → answer_up_to more bytes s ≡ stop_for why s
   unfolding answer_up_to
-  fills zero s l h n = absurd (omega arith)
-  fills (suc more) s l h n = rw (lt-leb (length bytes) s.progress.at h, n)
+  stops zero s why l e =
+      let past = next_past s (omega arith) in
+      let same : Stop.All ≡ why = cc in
+      ap (λ (w : Stop). stop_for w s) same
+  stops (suc more) s why l e = one_turn more s ∙ ap (λ (d : Result (Call × ℕ) Stop). stepped d s (answer_up_to more bytes)) e
 
-  pub full :
-      (s : Playing) → Same s → s.progress.at < length bytes → has_room_for (length s.out) s.progress.text s.progress.step ≡ false
-      → answer_records bytes start ≡ stop_for Stop.Full s
-  full s i h n = i.same ∙ fills i.more s i.enough h n
+  module _ (start : Playing) where
+    pub record Same (s : Playing) : Type 0 where
+      pub more : ℕ
+      pub enough : length bytes ≤ s.progress.at + more
+      pub same : answer_records bytes start ≡ answer_up_to more bytes s
 
-  pub record Turn (s : Playing) : Type 0 where
-    pub more : ℕ
-    pub enough : length bytes ≤ s.progress.at + more + 1
-    pub same : answer_records bytes start ≡ followed (decode_at bytes s.progress.at) s (answer_up_to more bytes)
+    pub begins : Same start
+    unfolding answer_records
+    begins = record { more = length bytes; enough = omega arith; same = refl }
 
-  turns :
-      (more : ℕ) (s : Playing) → length bytes ≤ s.progress.at + more → s.progress.at < length bytes
-      → has_room_for (length s.out) s.progress.text s.progress.step ≡ true → answer_records bytes start ≡ answer_up_to more bytes s → Turn s
-  unfolding answer_up_to
-  turns zero s l h n e = absurd (omega arith)
-  turns (suc more) s l h n e =
-      record { more = more; enough = omega arith; same = rw (lt-leb (length bytes) s.progress.at h, n) at e }
+    pub ends : {s : Playing} {why : Stop} → Same s → next s ≡ Err why → answer_records bytes start ≡ stop_for why s
+    ends {s} {why} i e = i.same ∙ stops i.more s why i.enough e
 
-  pub turn : (s : Playing) → Same s → s.progress.at < length bytes → has_room_for (length s.out) s.progress.text s.progress.step ≡ true → Turn s
-  turn s i h n = turns i.more s i.enough h n i.same
+    goes :
+        (more : ℕ) (s : Playing) {r : Call} {n : ℕ} → length bytes ≤ s.progress.at + more → answer_records bytes start ≡ answer_up_to more bytes s
+        → next s ≡ Ok (r, n) → Same (answer_one s r n)
+    goes zero s l i e = absurd (let past = next_past s (omega arith) in let f : ◌≡◌ {A = ℕ} 0 1 = cc in omega arith)
+    goes (suc more) s {r} {n} l i e =
+        let w = (found {s = s} e).within in
+        record {
+          more = more;
+          enough = omega (arith, one_at s r n);
+          same = i ∙ one_turn more s ∙ ap (λ (d : Result (Call × ℕ) Stop). stepped d s (answer_up_to more bytes)) e;
+        }
 
-  pub unknown : (s : Playing) → Turn s → decode_at bytes s.progress.at ≡ Unknown → answer_records bytes start ≡ stop_for Stop.Unknown s
-  unknown s t e = t.same ∙ ap (λ (d : Decoded). followed d s (answer_up_to t.more bytes)) e
-
-  pub cut : (s : Playing) → Turn s → decode_at bytes s.progress.at ≡ Cut → answer_records bytes start ≡ stop_for Stop.Cut s
-  cut s t e = t.same ∙ ap (λ (d : Decoded). followed d s (answer_up_to t.more bytes)) e
-
-  pub whole : (s : Playing) (r : Call) (n : ℕ) → Turn s → decode_at bytes s.progress.at ≡ Whole r n → Same (answer_one s r n)
-  whole s r n t e =
-      let w = whole_within bytes s.progress.at e in
-      record {
-        more = t.more;
-        enough = omega (arith, one_at s r n);
-        same = t.same ∙ ap (λ (d : Decoded). followed d s (answer_up_to t.more bytes)) e;
-      }
+    pub goes_on : {s : Playing} {r : Call} {n : ℕ} → Same s → next s ≡ Ok (r, n) → Same (answer_one s r n)
+    goes_on {s} i e = goes i.more s i.enough i.same e

@@ -11,8 +11,9 @@ use Rattle.search.proofs.Bools.{by_cases, below_or_not}
 use Rattle.frames.specs.Tables.{Tables}
 use Rattle.rules.specs.declared.Call.{Call}
 use Rattle.rules.specs.Record.{fresh_record}
-use Rattle.records.specs.declared.Decoded.{Decoded}
-use Rattle.records.specs.declared.Decoded.TheVariants.{Whole, Unknown, Cut}
+use Rattle.std.specs.Prelude.{Result, Ok, Err}
+use Rattle.records.specs.declared.Undecoded.{Undecoded}
+use Rattle.records.specs.declared.Undecoded.TheVariants.{Unknown, Cut}
 use Rattle.records.specs.Records.{decode_at}
 use Rattle.text.specs.Writing.{written}
 use Rattle.records.specs.Lines.{heading}
@@ -44,22 +45,22 @@ module _ (bytes : List ℕ) (more : ℕ) where
   abbrev Kept : Playing → Played → Type 0
   Kept s end = end.stopped.why ≢ Stop.Full → text_of end ≡ so_far s ++ left more bytes s
 
-  abbrev followed_by : Decoded → Playing → List ℕ
+  abbrev followed_by : Result (Call × ℕ) Undecoded → Playing → List ℕ
   followed_by d s = lines_after d s.progress.at s.progress.step s.progress.«record» s.left (lines_up_to more bytes)
 
   follows :
-      (d : Decoded) (s : Playing) → s.progress.text ≤ length s.out
+      (d : Result (Call × ℕ) Undecoded) (s : Playing) → s.progress.text ≤ length s.out
       → ((z : Playing) → z.progress.text ≤ length z.out → Kept z (answer_up_to more bytes z))
       → (followed d s (answer_up_to more bytes)).stopped.why ≢ Stop.Full
       → text_of (followed d s (answer_up_to more bytes)) ≡ so_far s ++ followed_by d s
   unfolding answer_one
-  follows (Whole r n) s h rest e =
+  follows (Ok (r, n)) s h rest e =
       let line = line_for s.progress.step (answer_to r s.progress.«record» s.left).answer in
       rest (answer_one s r n) (one_text s r n h) e
       ∙ ap (λ (l : List ℕ). l ++ left more bytes (answer_one s r n)) (one_line s r n h)
       ∙ append_assoc (so_far s) line (left more bytes (answer_one s r n))
-  follows Unknown s h rest e = refl
-  follows Cut s h rest e = refl
+  follows (Err Unknown) s h rest e = refl
+  follows (Err Cut) s h rest e = refl
 
 up_to : (bytes : List ℕ) (more : ℕ) (s : Playing) → s.progress.text ≤ length s.out → Kept bytes more s (answer_up_to more bytes s)
 unfolding answer_up_to lines_up_to

@@ -1,5 +1,5 @@
 -- Document 01, "Replay records": the call of a record, what it is lent, and the lines of record after record.
-use Rattle.std.specs.Prelude.{ℕ, zero, suc, ◌+◌, Bool, not, ◌&&◌, ◌||◌, List, [], ◌++◌, length, take, drop, ltb, leb, if◌then◌else◌}
+use Rattle.std.specs.Prelude.{ℕ, zero, suc, ◌+◌, Bool, not, ◌&&◌, ◌||◌, List, [], ◌++◌, length, take, drop, ltb, leb, if◌then◌else◌, Result, Ok, Err}
 use Rattle.answer.specs.declared.Answer.{Answer}
 use Rattle.frames.specs.Units.{most_number}
 use Rattle.frames.specs.Tables.{Tables, tables}
@@ -10,8 +10,8 @@ use Rattle.rules.specs.Outcomes.{Outcome, outcome, refuse}
 use Rattle.rules.specs.Counters.{counted}
 use Rattle.rules.specs.Calls.{perform}
 use Rattle.rules.specs.Ledger.Roles.{role_of}
-use Rattle.records.specs.declared.Decoded.{Decoded}
-use Rattle.records.specs.declared.Decoded.TheVariants.{Whole, Unknown, Cut}
+use Rattle.records.specs.declared.Undecoded.{Undecoded}
+use Rattle.records.specs.declared.Undecoded.TheVariants.{Unknown, Cut}
 use Rattle.records.specs.Records.{decode_at}
 use Rattle.text.specs.Writing.{four_numbers, written}
 use Rattle.playback.specs.declared.Progress.{Progress}
@@ -101,11 +101,15 @@ stopped_at p why = record { progress = p; why = why }
 abbrev pub stop_for : Stop → Playing → Played
 stop_for why s = played (stopped_at s.progress why) s.out s.left
 
+-- the reason by that of the decoding
+abbrev pub stop_of : Undecoded → Stop
+stop_of Unknown = Stop.Unknown
+stop_of Cut = Stop.Cut
+
 -- a whole record is answered and the next follows; else the reason is that of the decoding
-abbrev pub followed : Decoded → Playing → (Playing → Played) → Played
-followed (Whole call size) s next = next (answer_one s call size)
-followed Unknown s next = stop_for Stop.Unknown s
-followed Cut s next = stop_for Stop.Cut s
+abbrev pub followed : Result (Call × ℕ) Undecoded → Playing → (Playing → Played) → Played
+followed (Ok (call, size)) s next = next (answer_one s call size)
+followed (Err why) s next = stop_for (stop_of why) s
 
 -- the records of some bytes, at most so many of them: All where no byte is left; Full where the output has no room for another line, or the
 -- step cannot be counted in 64 bits

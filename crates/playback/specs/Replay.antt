@@ -1,12 +1,13 @@
 -- Document 01, "Replay records": the whole output of a replay, as one function of its input. It is what the program's blocks, put together,
 -- must give, whatever the sizes of its buffers.
-use Rattle.std.specs.Prelude.{ℕ, zero, suc, ◌+◌, ◌≡◌, ◌≢◌, List, [], ◌++◌, length, take, replicate, leb, if◌then◌else◌}
+use Rattle.std.specs.Prelude.{ℕ, zero, suc, ◌+◌, ◌≡◌, ◌≢◌, List, [], ◌++◌, length, take, replicate, leb, if◌then◌else◌, Result, Ok, Err}
 use Rattle.frames.specs.Tables.{Tables, tables}
 use Rattle.rules.specs.declared.Record.{Record}
 use Rattle.rules.specs.Record.{fresh_record}
 use Rattle.rules.specs.Counters.{no_grants}
-use Rattle.records.specs.declared.Decoded.{Decoded}
-use Rattle.records.specs.declared.Decoded.TheVariants.{Whole, Unknown, Cut}
+use Rattle.rules.specs.declared.Call.{Call}
+use Rattle.records.specs.declared.Undecoded.{Undecoded}
+use Rattle.records.specs.declared.Undecoded.TheVariants.{Unknown, Cut}
 use Rattle.records.specs.Records.{decode_at}
 use Rattle.records.specs.Lines.{heading, bad_line, end_line}
 use Rattle.playback.specs.declared.Progress.{Progress}
@@ -22,12 +23,12 @@ held_bitmap_words = 96
 
 -- what is found at an offset: a whole record has its line, and then come the lines that follow; an unknown kind or a cut body has `bad`
 -- with the offset
-abbrev pub lines_after : Decoded → ℕ → ℕ → Record → Tables → (ℕ → ℕ → Record → Tables → List ℕ) → List ℕ
-lines_after (Whole call size) at step m t follow =
+abbrev pub lines_after : Result (Call × ℕ) Undecoded → ℕ → ℕ → Record → Tables → (ℕ → ℕ → Record → Tables → List ℕ) → List ℕ
+lines_after (Ok (call, size)) at step m t follow =
     let o = answer_to call m t in
     line_for step o.answer ++ follow (at + size) (step + 1) o.machine o.left
-lines_after Unknown at step m t follow = bad_line at
-lines_after Cut at step m t follow = bad_line at
+lines_after (Err Unknown) at step m t follow = bad_line at
+lines_after (Err Cut) at step m t follow = bad_line at
 
 -- the lines from an offset on, for at most so many records: `end` with the number of records where no byte is left
 unfoldable pub lines_up_to : ℕ → List ℕ → ℕ → ℕ → Record → Tables → List ℕ

@@ -1,23 +1,19 @@
 // The call of a record, made on the tables that a replay holds.
-ghost use Rattle.std.specs.Prelude.{◌≡◌, length};
-ghost use Rattle.answer.specs.Answers.{refused};
+ghost use Rattle.std.specs.Prelude.{◌≡◌, [], length};
+ghost use Rattle.answer.specs.Answers.{answer_at};
+ghost use Rattle.frames.specs.Tables.{tables};
+ghost use Rattle.rules.specs.Calls.{perform};
+ghost use Rattle.rules.specs.Counters.{counted};
+ghost use Rattle.rules.specs.Does.{record_with};
 ghost use Rattle.rules.specs.Limits.{most_area_numbers};
+ghost use Rattle.rules.specs.Outcomes.{outcome};
 ghost use Rattle.machine.specs.Does.{Makes};
 ghost use Rattle.playback.specs.Playback.{frames_for, answer_to};
 
-use answer::{Answer, refusal};
+use answer::{Refusal, Refused};
+use frames::LentTables;
 use machine::{Machine, Returned};
 use rules::Call;
-
-// The record as it was given, with the refusal of a wrong shape.
-fn wrong_shape(machine: Machine) -> Returned
-    ensures { result ≡ record { machine = machine; answer = refused 1 } }
-{
-    Returned {
-        machine,
-        answer: Answer::refused(refusal::WRONG_SHAPE),
-    }
-}
 
 // How many frames the tables are lent for: a boot's own, and for any other call those of the machine.
 fn frames_for(machine: Machine, call: Call) -> u64
@@ -33,9 +29,8 @@ fn frames_for(machine: Machine, call: Call) -> u64
     }
 }
 
-// A call, lent an entry of marks, words and owners for each frame. A boot that asks for more frames than the tables hold is refused; a machine
-// never has more, since no such boot was accepted.
-pub(crate) fn answer(
+// A call on tables that are lent one by one: the borrow checker does not follow parts of a struct's slices into another struct.
+fn perform_on(
     areas: &mut [u64],
     marks: &mut [u32],
     words: &mut [u64],
@@ -45,27 +40,47 @@ pub(crate) fn answer(
     call: Call,
 ) -> Returned
     requires { length areas.old ≡ most_area_numbers }
-    ensures { Makes call (answer_to call) machine areas result marks words bitmap owners }
+    ensures performed { outcome (record_with result.machine.memory areas.new) (answer_at result.answer) (tables marks.new words.new bitmap.new owners.new) ≡ perform call [] (record_with machine.memory areas.old) (tables marks.old words.old bitmap.old owners.old) }
+    ensures counted { result.machine.counters ≡ counted call (answer_at result.answer).refusal machine.counters }
+{
+    let mut lent = LentTables {
+        marks,
+        words,
+        bitmap,
+        owners,
+    };
+    machine.perform(areas, &mut lent, call, b"", &mut [])
+}
+
+// A call, lent an entry of marks, words and owners for each frame. A boot that asks for more frames than the tables hold is refused; a machine
+// never has more, since no such boot was accepted.
+pub(crate) fn answer(
+    areas: &mut [u64],
+    tables: &mut LentTables,
+    machine: Machine,
+    call: Call,
+) -> Returned
+    requires { length areas.old ≡ most_area_numbers }
+    ensures { Makes call (answer_to call) machine areas.old areas.new result tables.old tables.new }
 {
     let frames = frames_for(machine, call);
-    if (marks.len() as u64) < frames {
-        return wrong_shape(machine);
-    }
-    if (words.len() as u64) < frames {
-        return wrong_shape(machine);
-    }
-    if (owners.len() as u64) < frames {
-        return wrong_shape(machine);
+    if (tables.marks.len() as u64) < frames
+        || (tables.words.len() as u64) < frames
+        || (tables.owners.len() as u64) < frames
+    {
+        return Returned {
+            machine,
+            answer: Err(Refused::from(Refusal::WrongShape)),
+        };
     }
     let n = frames as usize;
-    machine.perform(
+    perform_on(
         areas,
-        &mut marks[0..n],
-        &mut words[0..n],
-        bitmap,
-        &mut owners[0..n],
+        &mut tables.marks[0..n],
+        &mut tables.words[0..n],
+        tables.bitmap,
+        &mut tables.owners[0..n],
+        machine,
         call,
-        b"",
-        &mut [],
     )
 }

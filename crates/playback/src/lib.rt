@@ -2,20 +2,23 @@
 #![tactic(auto)]
 
 ghost use Rattle.std.specs.Prelude.{◌≡◌, true, ◌+◌, ◌≤◌, length};
-ghost use Rattle.frames.specs.Tables.{tables};
+ghost use Rattle.frames.specs.Lent.{tables_in, SameSlices};
 ghost use Rattle.frames.specs.Units.{most_number};
 ghost use Rattle.rules.specs.Limits.{most_area_numbers};
-ghost use Rattle.playback.specs.Playback.{stopped_at, has_room_for, playing, answer_one, played, answer_records};
-ghost use Rattle.playback.specs.Steps.Going.{progress_with};
+ghost use Rattle.playback.specs.Playback.{has_room_for, playing, answer_one, stop_of, played, answer_records};
+ghost use Rattle.playback.specs.Steps.Going.{progress_with, next_at};
 
 mod calls;
-pub mod held;
+mod held;
 
+use answer::Answer;
 use calls::answer;
+use frames::LentTables;
+pub use held::Held;
 use machine::Machine;
-use records::Decoded;
+use records::Undecoded;
 use rules::{Call, Counters, Record};
-use text::writing::put_four;
+use text::writing::Writer;
 
 // The room that a step's line is given: it is enough for the longest, which has 84 bytes, and for the last line of an output after it,
 // which has at most 25.
@@ -35,17 +38,16 @@ pub struct Progress {
     pub step: u64,
 }
 
-// The same but for the numbers of the areas, which stay in one place from call to call: what each call hands on.
+// The same but for the numbers of the areas and the text, which stay in one place from call to call: what each call hands on.
 #[derive(Clone, Copy)]
 struct Going {
     machine: Machine,
     at: usize,
-    text: usize,
     step: u64,
 }
 
 // Why no more records were answered.
-#[derive(Clone, Copy)]
+#[derive(Clone, Copy, Debug, PartialEq, Eq)]
 pub enum Stop {
     // Every byte is read.
     All,
@@ -57,66 +59,63 @@ pub enum Stop {
     Full,
 }
 
+// How far the records were answered, and why no more were.
 #[derive(Clone, Copy)]
 pub struct Stopped {
     pub progress: Progress,
     pub why: Stop,
 }
 
-// No more records are answered, for a reason.
-fn stops(p: Going, areas: [u64; Record::AREA_NUMBERS], why: Stop) -> Stopped
-    ensures { result ≡ stopped_at (progress_with p areas) why }
-{
-    let memory = p.machine.memory;
-    let counters = p.machine.counters;
-    let record = Record { memory, areas };
-    let progress = Progress {
-        record,
-        counters,
-        at: p.at,
-        text: p.text,
-        step: p.step,
-    };
-    Stopped { progress, why }
+impl From<Undecoded> for Stop {
+    ghost from_gives = { λ why stop. stop ≡ stop_of why };
+
+    fn from(why: Undecoded) -> Stop {
+        match why {
+            Undecoded::Unknown => Stop::Unknown,
+            Undecoded::Cut => Stop::Cut,
+        }
+    }
 }
 
 // Another line can be written after the text, in an output of `size` bytes, and its step counted.
 fn has_room(size: usize, text: usize, step: u64) -> bool
     ensures { result ≡ has_room_for size text step }
 {
-    if size < ROOM {
-        return false;
+    text::writing::has_room(size, text, ROOM) && step < LAST_STEP
+}
+
+// The next record and its length, or why no more are answered.
+fn next_record(bytes: &[u8], out: &Writer, p: Going) -> Result<(Call, usize), Stop>
+    ensures { result ≡ next_at bytes.now p.at (length out.now.buffer.now) out.now.length p.step }
+{
+    if p.at >= bytes.len() {
+        return Err(Stop::All);
     }
-    if size - ROOM < text {
-        return false;
+    if !has_room(out.buffer.len(), out.length, p.step) {
+        return Err(Stop::Full);
     }
-    step < LAST_STEP
+    Ok(records::decode(bytes, p.at)?)
 }
 
 // One record of `size` bytes: its call is made, its line written, and its step counted.
 fn answer_one(
-    out: &mut [u8],
+    out: &mut Writer,
     areas: &mut [u64],
-    marks: &mut [u32],
-    words: &mut [u64],
-    bitmap: &mut [u64],
-    owners: &mut [u32],
+    tables: &mut LentTables,
     p: Going,
     call: Call,
     size: usize,
 ) -> Going
-    requires { (has_room_for (length out.old) p.text p.step ≡ true) × (p.at + size ≤ most_number) × (length areas.old ≡ most_area_numbers) }
-    ensures { playing (progress_with result areas.new) out.new (tables marks.new words.new bitmap.new owners.new) ≡ answer_one (playing (progress_with p areas.old) out.old (tables marks.old words.old bitmap.old owners.old)) call size }
+    requires { (has_room_for (length out.old.buffer.now) out.old.length p.step ≡ true) × (p.at + size ≤ most_number) × (length areas.old ≡ most_area_numbers) }
+    ensures same { SameSlices tables.old tables.new × (out.new.buffer.ghost_name ≡ out.old.buffer.ghost_name) }
+    ensures answered { playing (progress_with result areas.new out.new.length) out.new.buffer.now (tables_in tables.new) ≡ answer_one (playing (progress_with p areas.old out.old.length) out.old.buffer.now (tables_in tables.old)) call size }
 {
-    let before = p.machine;
-    let returned = answer(areas, marks, words, bitmap, owners, before, call);
-    let machine = returned.machine;
-    let a = returned.answer;
-    let text = put_four(out, p.text, p.step, a.refusal, a.first, a.second);
+    let returned = answer(areas, tables, p.machine, call);
+    let told = Answer::from(returned.answer);
+    out.put_four(p.step, told.refusal, told.first, told.second);
     Going {
-        machine,
+        machine: returned.machine,
         at: p.at + size,
-        text,
         step: p.step + 1,
     }
 }
@@ -125,41 +124,42 @@ fn answer_one(
 pub fn answer_records(
     bytes: &[u8],
     out: &mut [u8],
-    marks: &mut [u32],
-    words: &mut [u64],
-    bitmap: &mut [u64],
-    owners: &mut [u32],
+    tables: &mut LentTables,
     start: Progress,
 ) -> Stopped
-    ensures { played result out.new (tables marks.new words.new bitmap.new owners.new) ≡ answer_records bytes.now (playing start out.old (tables marks.old words.old bitmap.old owners.old)) }
+    ensures same { SameSlices tables.old tables.new }
+    ensures answered { played result out.new (tables_in tables.new) ≡ answer_records bytes.now (playing start out.old (tables_in tables.old)) }
 {
+    let mut out = Writer {
+        buffer: out,
+        length: start.text,
+    };
     let mut areas = start.record.areas;
-    let memory = start.record.memory;
-    let counters = start.counters;
-    let machine = Machine { memory, counters };
     let mut p = Going {
-        machine,
+        machine: Machine {
+            memory: start.record.memory,
+            counters: start.counters,
+        },
         at: start.at,
-        text: start.text,
         step: start.step,
     };
-    while p.at < bytes.len() {
-        if !has_room(out.len(), p.text, p.step) {
-            return stops(p, areas, Stop::Full);
+    let why = loop {
+        match next_record(bytes, &out, p) {
+            Ok((call, size)) => p = answer_one(&mut out, &mut areas, tables, p, call, size),
+            Err(why) => break why,
         }
-        let at = p.at;
-        let found = records::decode(bytes, at);
-        match found {
-            Decoded::Whole(call, size) => {
-                p = answer_one(out, &mut areas, marks, words, bitmap, owners, p, call, size);
-            }
-            Decoded::Unknown => {
-                return stops(p, areas, Stop::Unknown);
-            }
-            Decoded::Cut => {
-                return stops(p, areas, Stop::Cut);
-            }
-        }
+    };
+    Stopped {
+        progress: Progress {
+            record: Record {
+                memory: p.machine.memory,
+                areas,
+            },
+            counters: p.machine.counters,
+            at: p.at,
+            text: out.length,
+            step: p.step,
+        },
+        why,
     }
-    stops(p, areas, Stop::All)
 }

@@ -1,9 +1,8 @@
 -- The list of bodies by kind. Assumes nothing.
---     past              a number that is at least n, and not n, is past n
---     unknown_length    past the list a body is empty; known: so a body that is not is on the list
+--     unknown_length    past the list a body is empty
+--     some_length       and a kind's is not
 --     body_most         no body is longer than 34 bytes
---     same_length       a kind that is known by its number has that number's length
-use Prim.Native.Nat.{ℕ, suc, ◌≤◌, ◌<◌}
+use Prim.Native.Nat.{ℕ, ◌≤◌, ◌<◌}
 use native.Mathlib.Omega.{arith}
 use mathlib.Core.Path.{◌≡◌, refl, ap}
 use lib.ListN.{get_or-eq_default}
@@ -12,20 +11,17 @@ use lib.Dec.{leb}
 use Rattle.search.specs.Search.{every, some, lowest_from}
 use Rattle.search.proofs.Bools.{below_or_not}
 use Rattle.search.proofs.Ranges.{every_all}
-use Rattle.records.specs.Records.{Body, body_length, body_of, bodies, sum}
-
-pub past : {n k : ℕ} → n ≤ k → (k ≡ n → ⊥) → suc n ≤ k
-past {n} {k} h ne = below_or_not n k (λ l. omega arith) (λ l. absurd (ne (omega arith)))
+use Rattle.std.proofs.Common.{rules}
+use Rattle.records.specs.declared.Kind.{Kind}
+use Rattle.records.specs.Records.{Body, number_of, body_length, body_of, bodies, sum}
 
 pub unknown_length : (kind : ℕ) → 13 ≤ kind → body_length kind ≡ 0
 unfolding body_length body_of bodies sum
 unknown_length kind h = ap (λ (b : Body). sum b.widths) (get_or-eq_default bodies _ {n = kind} h)
 
-pub known : (kind : ℕ) → (body_length kind ≡ 0 → ⊥) → kind < 13
-known kind ne = below_or_not kind 13 (λ h. h) (λ h. absurd (ne (unknown_length kind h)))
-
-pub same_length : {kind k : ℕ} → kind ≡ k → body_length kind ≡ body_length k
-same_length e = ap body_length e
+pub some_length : (kind : Kind) → 0 < body_length (number_of kind)
+unfolding body_length body_of bodies sum
+some_length kind = search rules
 
 -- the longest body is a declare's
 pub body_most : (kind : ℕ) → body_length kind ≤ 34

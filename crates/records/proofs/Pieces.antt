@@ -1,21 +1,25 @@
 -- A record goes by its own bytes alone, wherever they stand and whatever follows them: in which pieces the bytes come does not matter.
 -- Assumes nothing.
 --     Same              n bytes of a text are those of another
+--     rest_after        what is left of a text, as code takes it
+--     body_after        a body is read the same there
 --     decode_same       what is not cut is decoded the same where the bytes stand in another text
 --     decode_more       so also where more bytes follow
 --     decode_moved      and where the bytes before it are gone; what is cut is cut there too
 use Prim.Native.Nat.{ℕ, zero, suc, ◌+◌, ◌-◌, ◌≤◌, ◌<◌}
-use native.Mathlib.Nat.{add-zero}
+use native.Mathlib.Nat.{add-zero, zero-add}
 use native.Mathlib.Omega.{arith}
 use mathlib.Core.Path.{◌≡◌, refl, sym, ap, ◌∙◌}
+use Rattle.std.specs.Prelude.{Result, Ok, Err}
 use mathlib.Core.List.{List, [], ◌∷◌, ◌++◌}
-use lib.ListN.{length, get_or, drop, length-append, length-drop, get_or-append}
-use lib.Seq.{get_or-drop}
+use lib.ListN.{length, get_or, take, drop, length-append, length-drop, get_or-append}
+use lib.Seq.{get_or-drop, take-length}
 use lib.Dec.{eqb}
 use borrow.Author.Tests.{eqb-true, eqb-false}
 use Rattle.search.proofs.Bools.{by_cases, below_or_not}
-use Rattle.records.specs.declared.Decoded.{Decoded}
-use Rattle.records.specs.declared.Decoded.TheVariants.{Whole, Unknown, Cut}
+use Rattle.rules.specs.declared.Call.{Call}
+use Rattle.records.specs.declared.Undecoded.{Undecoded}
+use Rattle.records.specs.declared.Undecoded.TheVariants.{Unknown, Cut}
 use Rattle.records.specs.Records.{little, numbers, sum, body_of, body_length, body_at, decode_at}
 use Rattle.records.proofs.Little.{little_none, little_more}
 use Rattle.records.proofs.Decoding.{decode_past, decode_unknown, decode_cut, decode_whole}
@@ -53,6 +57,13 @@ unfolding body_length body_at
 body_local kind s t at bt same =
     ap (λ (ns : List ℕ). (body_of kind).gives (λ i. get_or ns i 0)) (numbers_same s t at bt 0 (body_of kind).widths (λ k h. same k (omega arith)))
 
+-- what is left of a text, as code takes it
+pub rest_after : (at : ℕ) (s : List ℕ) → take (length s - at) (drop at s) ≡ drop at s
+rest_after at s = ap (λ (n : ℕ). take n (drop at s)) (sym (length-drop at s)) ∙ take-length (drop at s)
+
+pub body_after : (kind at : ℕ) (s : List ℕ) → body_at kind (take (length s - at) (drop at s)) 0 ≡ body_at kind s at
+body_after kind at s = rw rest_after (body_local kind (drop at s) s 0 at (λ o h. rw zero-add (get_or-drop at s o 0)))
+
 -- all that is left of s from `at` on stands in t from bt on
 module _ (s t : List ℕ) (at bt : ℕ) (long : length s - at ≤ length t - bt) (same : Same s at t bt (length s - at)) where
   abbrev size : ℕ
@@ -69,7 +80,7 @@ module _ (s t : List ℕ) (at bt : ℕ) (long : length s - at ≤ length t - bt)
       ap (λ (k : ℕ). body_at k t (bt + 1)) (kind_same h)
       ∙ sym (body_local (get_or s at 0) s t (at + 1) (bt + 1) (same_part s t at bt (length s - at) 1 size (omega arith) same))
 
-  pub decode_same : (decode_at s at ≡ Cut → ⊥) → decode_at t bt ≡ decode_at s at
+  pub decode_same : (decode_at s at ≡ Err Cut → ⊥) → decode_at t bt ≡ decode_at s at
   decode_same whole =
       below_or_not at (length s)
       (λ h.
@@ -86,7 +97,7 @@ module _ (s t : List ℕ) (at bt : ℕ) (long : length s - at ≤ length t - bt)
       (λ h. absurd (whole (decode_past s at h)))
 
   -- nothing more is left of t, so what is cut is cut there too
-  pub decode_cut_same : length t - bt ≤ length s - at → decode_at s at ≡ Cut → decode_at t bt ≡ Cut
+  pub decode_cut_same : length t - bt ≤ length s - at → decode_at s at ≡ Err Cut → decode_at t bt ≡ Err Cut
   decode_cut_same short cut =
       below_or_not at (length s)
       (λ h.
@@ -99,12 +110,12 @@ module _ (s t : List ℕ) (at bt : ℕ) (long : length s - at ≤ length t - bt)
       (λ l. absurd (let u = decode_whole s at h n l in let f : ◌≡◌ {A = ℕ} 0 1 = cc in omega arith))))
       (λ h. decode_past t bt (omega arith))
 
-by_cut {ℓ} : {P : Type ℓ} (d : Decoded) → (d ≡ Cut → P) → ((d ≡ Cut → ⊥) → P) → P
-by_cut Cut at_cut other = at_cut refl
-by_cut Unknown at_cut other = other (λ e. let f : ◌≡◌ {A = ℕ} 0 1 = cc in omega arith)
-by_cut (Whole r n) at_cut other = other (λ e. let f : ◌≡◌ {A = ℕ} 0 1 = cc in omega arith)
+by_cut {ℓ} : {P : Type ℓ} (d : Result (Call × ℕ) Undecoded) → (d ≡ Err Cut → P) → ((d ≡ Err Cut → ⊥) → P) → P
+by_cut (Err Cut) at_cut other = at_cut refl
+by_cut (Err Unknown) at_cut other = other (λ e. let f : ◌≡◌ {A = ℕ} 0 1 = cc in omega arith)
+by_cut (Ok d) at_cut other = other (λ e. let f : ◌≡◌ {A = ℕ} 0 1 = cc in omega arith)
 
-pub decode_more : (s t : List ℕ) (at : ℕ) → (decode_at s at ≡ Cut → ⊥) → decode_at (s ++ t) at ≡ decode_at s at
+pub decode_more : (s t : List ℕ) (at : ℕ) → (decode_at s at ≡ Err Cut → ⊥) → decode_at (s ++ t) at ≡ decode_at s at
 decode_more s t at =
     decode_same s (s ++ t) at at (simp length-append (omega arith)) (λ o h. sym (get_or-append s t 0 (at + o) (omega arith)))
 

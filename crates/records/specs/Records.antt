@@ -1,15 +1,36 @@
 -- Document 01, "Replay records": one byte of kind, then a body whose length the kind fixes, little endian. A record stands for a call; a
 -- boot's text is empty.
-use Rattle.std.specs.Prelude.{ℕ, zero, suc, ◌+◌, ◌-◌, ◌*◌, not, List, [], ◌∷◌, length, get_or, ltb, leb, eqb, if◌then◌else◌}
+use Rattle.std.specs.Prelude.{ℕ, zero, suc, ◌+◌, ◌-◌, ◌*◌, ◌<◌, ◌≡◌, not, List, [], ◌∷◌, length, get_or, ltb, leb, eqb, if◌then◌else◌, Result, Ok, Err, MatchResult}
 use Rattle.frames.specs.Units.{frame}
 use Rattle.rules.specs.declared.Call.{Call}
-use Rattle.records.specs.declared.Decoded.{Decoded}
-use Rattle.records.specs.declared.Decoded.TheVariants.{Whole, Unknown, Cut}
+use Rattle.records.specs.declared.Kind.{Kind}
+use Rattle.records.specs.declared.Undecoded.{Undecoded}
+use Rattle.records.specs.declared.Undecoded.TheVariants.{Unknown, Cut}
 
 -- the number in n bytes from `at` on, little endian: the lowest byte comes first
 unfoldable pub little : List ℕ → ℕ → ℕ → ℕ
 little s at zero = 0
 little s at (suc n) = get_or s at 0 + 256 * little s (suc at) n
+
+-- the kinds' numbers
+abbrev pub number_of : Kind → ℕ
+number_of Kind.Boot = 0
+number_of Kind.PutMovable = 1
+number_of Kind.PutFixed = 2
+number_of Kind.Drop = 3
+number_of Kind.Pin = 4
+number_of Kind.Unpin = 5
+number_of Kind.Store = 6
+number_of Kind.Read = 7
+number_of Kind.Grant = 8
+number_of Kind.Release = 9
+number_of Kind.DeviceStore = 10
+number_of Kind.DeviceRead = 11
+number_of Kind.Declare = 12
+
+-- the result is the kind with this number, or an error with a number that no kind has
+abbrev pub IsKindOf : ℕ → Result Kind Undecoded → Type 0
+IsKindOf number r = MatchResult r (λ kind. number_of kind ≡ number) (λ e. (e ≡ Unknown) × (12 < number))
 
 -- a body: the widths of its fields, and the call that their numbers give, by place
 pub record Body : Type 0 where
@@ -76,11 +97,11 @@ body_length kind = sum (body_of kind).widths
 unfoldable pub body_at : ℕ → List ℕ → ℕ → Call
 body_at kind s at = (body_of kind).gives (λ i. get_or (numbers s at 0 (body_of kind).widths) i 0)
 
--- the record that begins at an offset; it is cut where the bytes end before its body does
-unfoldable pub decode_at : List ℕ → ℕ → Decoded
+-- the record that begins at an offset, its call and its length with the byte of kind; it is cut where the bytes end before its body does
+unfoldable pub decode_at : List ℕ → ℕ → Result (Call × ℕ) Undecoded
 decode_at s at =
     let kind = get_or s at 0 in
-    if leb (length s) at then Cut
-    else if eqb (body_length kind) 0 then Unknown
-    else if ltb (length s - (at + 1)) (body_length kind) then Cut
-    else Whole (body_at kind s (at + 1)) (body_length kind + 1)
+    if leb (length s) at then Err Cut
+    else if eqb (body_length kind) 0 then Err Unknown
+    else if ltb (length s - (at + 1)) (body_length kind) then Err Cut
+    else Ok (body_at kind s (at + 1), body_length kind + 1)

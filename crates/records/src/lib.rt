@@ -1,192 +1,224 @@
 // Document 01, "Replay records", with the devices of document 02, request (vii): the call that a record stands for, read from bytes,
 // and in `lines` the text that is written for it.
-#![tactic(auto)]
+#![tactic(auto, unfolding(crate::specs::Records::body_length, crate::specs::Records::body_at, crate::specs::Records::body_of, crate::specs::Records::bodies, crate::specs::Records::sum, crate::specs::Records::numbers))]
 
-ghost use Rattle.std.specs.Prelude.{◌≡◌, ◌+◌, ◌≤◌, ◌<◌, length};
-ghost use Rattle.records.specs.Records.{little, body_length, body_at, decode_at};
+ghost use Rattle.std.specs.Prelude.{◌≡◌, ◌+◌, ◌≤◌, length};
+ghost use Rattle.records.specs.Records.{little, number_of, IsKindOf, body_length, body_at, decode_at};
 
 pub mod lines;
 
 use frames::Frame;
 use rules::{Call, Request};
 
-// What stands at an offset.
-#[derive(Clone, Copy)]
-pub enum Decoded {
-    // The call of a whole record, and the record's length with the byte of kind. A boot has the empty text.
-    Whole(Call, usize),
+// Why no call stands at an offset.
+#[derive(Clone, Copy, Debug, PartialEq, Eq)]
+pub enum Undecoded {
     // A byte that is no kind.
     Unknown,
     // The bytes end before the body does.
     Cut,
 }
 
-// The length of a body, which the kind fixes; 0 where the kind is unknown, since no body is empty.
-pub fn body_length(kind: u8) -> usize
-    ensures { result ≡ body_length kind }
-{
-    match kind {
-        0 => 13,
-        1 => 4,
-        2 => 4,
-        3 => 4,
-        4 => 4,
-        5 => 4,
-        6 => 12,
-        7 => 4,
-        8 => 8,
-        9 => 15,
-        10 => 18,
-        11 => 10,
-        12 => 34,
-        _ => 0,
+// The kinds of records, each with its number, the byte that a record begins with.
+#[derive(Clone, Copy, Debug, PartialEq, Eq)]
+pub enum Kind {
+    Boot = 0,
+    PutMovable = 1,
+    PutFixed = 2,
+    Drop = 3,
+    Pin = 4,
+    Unpin = 5,
+    Store = 6,
+    Read = 7,
+    Grant = 8,
+    Release = 9,
+    DeviceStore = 10,
+    DeviceRead = 11,
+    Declare = 12,
+}
+
+impl TryFrom<u8> for Kind {
+    type Error = Undecoded;
+
+    ghost try_from_gives = { IsKindOf };
+
+    fn try_from(number: u8) -> Result<Kind, Undecoded> {
+        match number {
+            0 => Ok(Kind::Boot),
+            1 => Ok(Kind::PutMovable),
+            2 => Ok(Kind::PutFixed),
+            3 => Ok(Kind::Drop),
+            4 => Ok(Kind::Pin),
+            5 => Ok(Kind::Unpin),
+            6 => Ok(Kind::Store),
+            7 => Ok(Kind::Read),
+            8 => Ok(Kind::Grant),
+            9 => Ok(Kind::Release),
+            10 => Ok(Kind::DeviceStore),
+            11 => Ok(Kind::DeviceRead),
+            12 => Ok(Kind::Declare),
+            _ => Err(Undecoded::Unknown),
+        }
     }
 }
 
-// The number in the `width` bytes from `at` on, the lowest byte first. Every width is read by this loop.
+impl Kind {
+    // The length of a body, which the kind fixes. No body is empty.
+    pub fn body_length(self) -> usize
+        ensures { result ≡ body_length (number_of self) }
+    {
+        match self {
+            Kind::Boot => 13,
+            Kind::PutMovable | Kind::PutFixed | Kind::Drop | Kind::Pin | Kind::Unpin | Kind::Read =>
+                4,
+            Kind::Store => 12,
+            Kind::Grant => 8,
+            Kind::Release => 15,
+            Kind::DeviceStore => 18,
+            Kind::DeviceRead => 10,
+            Kind::Declare => 34,
+        }
+    }
+}
+
+// The number in the `width` bytes from `at` on, the lowest byte first. Every width is read by this loop, from the highest byte down.
 fn number(bytes: &[u8], at: usize, width: usize) -> u64
     requires { (at + width ≤ length bytes.now) × (width ≤ 8) }
     ensures { result ≡ little bytes.now at width }
 {
     let mut value: u64 = 0;
-    let mut i = width;
-    while 0 < i {
-        i -= 1;
-        let byte = bytes[at + i] as u64;
-        value = value * 256 + byte;
+    for byte in bytes[at..at + width].iter().rev() {
+        value = value * 256 + u64::from(*byte);
     }
     value
 }
 
-fn boot(bytes: &[u8], at: usize) -> Call
-    requires { at + 13 ≤ length bytes.now }
-    ensures { result ≡ body_at 0 bytes.now at }
+fn boot(body: &[u8]) -> Call
+    requires { 13 ≤ length body.now }
+    ensures { result ≡ body_at 0 body.now 0 }
 {
     Call::Boot {
-        base: Frame(number(bytes, at, 8)),
-        frames: number(bytes, at + 8, 4),
-        block_order: number(bytes, at + 12, 1),
+        base: Frame(number(body, 0, 8)),
+        frames: number(body, 8, 4),
+        block_order: number(body, 12, 1),
     }
 }
 
-fn store(bytes: &[u8], at: usize) -> Call
-    requires { at + 12 ≤ length bytes.now }
-    ensures { result ≡ body_at 6 bytes.now at }
+fn store(body: &[u8]) -> Call
+    requires { 12 ≤ length body.now }
+    ensures { result ≡ body_at 6 body.now 0 }
 {
     Call::Store {
-        name: number(bytes, at, 4),
-        word: number(bytes, at + 4, 8),
+        name: number(body, 0, 4),
+        word: number(body, 4, 8),
     }
 }
 
-fn grant(bytes: &[u8], at: usize) -> Call
-    requires { at + 8 ≤ length bytes.now }
-    ensures { result ≡ body_at 8 bytes.now at }
+fn grant(body: &[u8]) -> Call
+    requires { 8 ≤ length body.now }
+    ensures { result ≡ body_at 8 body.now 0 }
 {
     Call::Grant {
-        area: number(bytes, at, 1),
-        count: number(bytes, at + 2, 4),
-        align: number(bytes, at + 1, 1),
-        device: number(bytes, at + 6, 2),
+        area: number(body, 0, 1),
+        count: number(body, 2, 4),
+        align: number(body, 1, 1),
+        device: number(body, 6, 2),
     }
 }
 
-fn release(bytes: &[u8], at: usize) -> Call
-    requires { at + 15 ≤ length bytes.now }
-    ensures { result ≡ body_at 9 bytes.now at }
+fn release(body: &[u8]) -> Call
+    requires { 15 ≤ length body.now }
+    ensures { result ≡ body_at 9 body.now 0 }
 {
     Call::Release {
-        area: number(bytes, at, 1),
-        frame: Frame(number(bytes, at + 1, 8)),
-        count: number(bytes, at + 9, 4),
-        device: number(bytes, at + 13, 2),
+        area: number(body, 0, 1),
+        frame: Frame(number(body, 1, 8)),
+        count: number(body, 9, 4),
+        device: number(body, 13, 2),
     }
 }
 
-fn device_store(bytes: &[u8], at: usize) -> Call
-    requires { at + 18 ≤ length bytes.now }
-    ensures { result ≡ body_at 10 bytes.now at }
+fn device_store(body: &[u8]) -> Call
+    requires { 18 ≤ length body.now }
+    ensures { result ≡ body_at 10 body.now 0 }
 {
     Call::DeviceStore {
-        frame: Frame(number(bytes, at, 8)),
-        word: number(bytes, at + 8, 8),
-        device: number(bytes, at + 16, 2),
+        frame: Frame(number(body, 0, 8)),
+        word: number(body, 8, 8),
+        device: number(body, 16, 2),
     }
 }
 
-fn device_read(bytes: &[u8], at: usize) -> Call
-    requires { at + 10 ≤ length bytes.now }
-    ensures { result ≡ body_at 11 bytes.now at }
+fn device_read(body: &[u8]) -> Call
+    requires { 10 ≤ length body.now }
+    ensures { result ≡ body_at 11 body.now 0 }
 {
     Call::DeviceRead {
-        frame: Frame(number(bytes, at, 8)),
-        device: number(bytes, at + 8, 2),
+        frame: Frame(number(body, 0, 8)),
+        device: number(body, 8, 2),
     }
 }
 
-fn declare(bytes: &[u8], at: usize) -> Call
-    requires { at + 34 ≤ length bytes.now }
-    ensures { result ≡ body_at 12 bytes.now at }
+fn declare(body: &[u8]) -> Call
+    requires { 34 ≤ length body.now }
+    ensures { result ≡ body_at 12 body.now 0 }
 {
     let request = Request {
-        base: number(bytes, at, 8),
-        size: number(bytes, at + 8, 8),
-        limit: number(bytes, at + 16, 8),
-        alignment: number(bytes, at + 24, 8),
-        order_per_bit: number(bytes, at + 32, 1),
-        fixed: number(bytes, at + 33, 1) != 0,
+        base: number(body, 0, 8),
+        size: number(body, 8, 8),
+        limit: number(body, 16, 8),
+        alignment: number(body, 24, 8),
+        order_per_bit: number(body, 32, 1),
+        fixed: number(body, 33, 1) != 0,
     };
     Call::Declare { request }
 }
 
-// The call of a record of a known kind whose whole body starts at `at`.
-fn body(bytes: &[u8], at: usize, kind: u8) -> Call
-    requires { (at + body_length kind ≤ length bytes.now) × (kind < 13) }
-    ensures { result ≡ body_at kind bytes.now at }
+// The call of a record of a kind, from bytes that begin with its whole body.
+fn call(kind: Kind, body: &[u8]) -> Call
+    requires { body_length (number_of kind) ≤ length body.now }
+    ensures { result ≡ body_at (number_of kind) body.now 0 }
 {
     match kind {
-        0 => boot(bytes, at),
-        1 => Call::PutMovable {
-            name: number(bytes, at, 4),
+        Kind::Boot => boot(body),
+        Kind::PutMovable => Call::PutMovable {
+            name: number(body, 0, 4),
         },
-        2 => Call::PutFixed {
-            name: number(bytes, at, 4),
+        Kind::PutFixed => Call::PutFixed {
+            name: number(body, 0, 4),
         },
-        3 => Call::Drop {
-            name: number(bytes, at, 4),
+        Kind::Drop => Call::Drop {
+            name: number(body, 0, 4),
         },
-        4 => Call::Pin {
-            name: number(bytes, at, 4),
+        Kind::Pin => Call::Pin {
+            name: number(body, 0, 4),
         },
-        5 => Call::Unpin {
-            name: number(bytes, at, 4),
+        Kind::Unpin => Call::Unpin {
+            name: number(body, 0, 4),
         },
-        6 => store(bytes, at),
-        7 => Call::Read {
-            name: number(bytes, at, 4),
+        Kind::Store => store(body),
+        Kind::Read => Call::Read {
+            name: number(body, 0, 4),
         },
-        8 => grant(bytes, at),
-        9 => release(bytes, at),
-        10 => device_store(bytes, at),
-        11 => device_read(bytes, at),
-        _ => declare(bytes, at),
+        Kind::Grant => grant(body),
+        Kind::Release => release(body),
+        Kind::DeviceStore => device_store(body),
+        Kind::DeviceRead => device_read(body),
+        Kind::Declare => declare(body),
     }
 }
 
-// The record that begins at `at`. Where no byte stands at `at`, its kind is cut off too.
-pub fn decode(bytes: &[u8], at: usize) -> Decoded
+// The record that begins at `at`: its call, and its length with the byte of kind. A boot has the empty text. Where no byte stands at `at`, its
+// kind is cut off too.
+pub fn decode(bytes: &[u8], at: usize) -> Result<(Call, usize), Undecoded>
     ensures { result ≡ decode_at bytes.now at }
 {
-    if bytes.len() <= at {
-        return Decoded::Cut;
+    let first = *bytes.get(at).ok_or(Undecoded::Cut)?;
+    let kind = Kind::try_from(first)?;
+    let length = kind.body_length();
+    let rest = &bytes[at + 1..];
+    if rest.len() < length {
+        return Err(Undecoded::Cut);
     }
-    let kind = bytes[at];
-    let length = body_length(kind);
-    if length == 0 {
-        return Decoded::Unknown;
-    }
-    if bytes.len() - (at + 1) < length {
-        return Decoded::Cut;
-    }
-    Decoded::Whole(body(bytes, at + 1, kind), length + 1)
+    Ok((call(kind, rest), length + 1))
 }

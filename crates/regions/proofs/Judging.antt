@@ -1,14 +1,14 @@
 -- Laws of numbers that are judged where they stand. Assumes nothing.
---     judged_much, judged_fit, amount_refused, amount_given    a number is judged as it is held
-use Prim.Native.Nat.{ℕ, ◌+◌, ◌≤◌, ◌<◌}
+--     judged_much, amount_refused, amount_given    a number is judged as it is held
+use Prim.Native.Nat.{ℕ, ◌+◌, ◌<◌}
 use native.Mathlib.Omega.{arith}
 use mathlib.Core.Path.{◌≡◌, sym, ◌∙◌}
 use mathlib.Core.List.{List}
 use mathlib.Core.Bool.{Bool}
-use borrow.Author.Tests.{lt-ltb, le-ltb}
+use borrow.Author.Tests.{lt-ltb}
 use Rattle.search.proofs.Bools.{below_or_not}
 use Rattle.text.specs.Numbers.{number, most_bytes, cap, capped}
-use Rattle.text.specs.Reading.{Read, gives, refuses, ◌then◌, refuse_if}
+use Rattle.text.specs.Reading.{Read, gives, refuses, ◌then◌}
 use Rattle.text.proofs.Capping.{cap_low, cap_high}
 use Rattle.regions.specs.Amounts.{amount}
 use Rattle.regions.specs.Steps.Parts.{judged}
@@ -16,9 +16,6 @@ use Rattle.regions.specs.Steps.Parts.{judged}
 module _ (wrong : ℕ → Bool) (at : ℕ) where
   pub judged_much : (v next : ℕ) → most_bytes < v → judged wrong at v next ≡ refuses 21 at
   judged_much v next h = rw (lt-ltb most_bytes v h)
-
-  pub judged_fit : (v next : ℕ) → v ≤ most_bytes → judged wrong at v next ≡ refuse_if (wrong v) 21 at (gives v next)
-  judged_fit v next h = rw (le-ltb most_bytes v h)
 
   -- a number is judged the same as it is held
   judged_held : (v next : ℕ) → judged wrong at (cap v) next ≡ judged wrong at v next

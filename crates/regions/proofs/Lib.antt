@@ -1,5 +1,6 @@
 pub mod Judging
 pub mod Listing
 pub mod Naming
+pub mod Powers
 pub mod Promises
 pub mod Refusals

@@ -1,36 +1,31 @@
 -- Laws of the list of regions, as a loop reads it. Assumes nothing.
---     held_result, holding_result    what a list of regions holds is the regions
---     added                            one region more
+--     held_padded                      what a list of regions holds is the regions
 --     from_end, from_full, from_next   the text ends here; nothing more can be held; the next region
---     one_end, one_full, one_next      the same of one region more
---     begins, reads_on, reads_end    reading a text: it begins, goes on by one region more with fewer turns left, and ends with what the text gives
+--     from_more                        what the next region, if one is left, and the rest give
+--     Reading                          the text is being read: what it gives is what reading on gives
+--     begins, reads_on, reads_end, reads_refused    it begins, goes on by one region more, ends, or is refused
 use Prim.Native.Nat.{ℕ, zero, suc, ◌+◌, ◌-◌, ◌≤◌, ◌<◌}
 use native.Mathlib.Omega.{arith}
 use mathlib.Core.Path.{◌≡◌, refl, sym, ap, ◌∙◌}
-use mathlib.Core.Bool.{Bool, true, false, false≢true}
 use mathlib.Core.List.{List, [], ◌∷◌, ◌++◌}
-use lib.Dec.{eqb, leb, ltb}
+use lib.Dec.{eqb, leb}
 use lib.ListN.{length, set, replicate, length-append}
 use lib.Seq.{take-append_seam, set-append_seam, append_snoc}
-use borrow.Author.Tests.{eq-eqb, ne_eqb, eqb-true, eqb-false, le-leb, lt-leb, leb-true, leb-false}
-use Rattle.std.specs.Prelude.{if◌then◌else◌}
+use borrow.Author.Tests.{eq-eqb, ne_eqb, eqb-true, eqb-false, le-ltb, leb-true, leb-false}
+use Rattle.std.specs.Prelude.{Option, Some, None, if◌then◌else◌}
 use Rattle.search.proofs.Bools.{by_cases}
 use Rattle.regions.specs.declared.Region.{Region}
 use Rattle.regions.specs.declared.Regions.{Regions}
-use Rattle.regions.specs.declared.list.Progress.{Progress}
 use Rattle.text.specs.Bytes.{byte_at}
 use Rattle.text.specs.Reading.{Read, gives, refuses, ◌then◌}
 use Rattle.regions.specs.Text.{expect, region, most_text, most_regions, regions_from, regions}
-use Rattle.regions.specs.Result.{no_region, padded, result_of}
+use Rattle.regions.specs.Result.{no_region, padded}
 use Rattle.regions.specs.Steps.Parts.{separated_from, next_region}
-use Rattle.regions.specs.Steps.Progress.{held, Holding, finished, begun, after_region, one_more}
+use Rattle.regions.specs.Steps.Progress.{held, one_more}
 use Rattle.text.proofs.Sequence.{then_given, then_refused}
 
-pub held_result : (rs : List Region) → held (result_of (gives rs 0)) ≡ rs
-held_result rs = take-append_seam rs (replicate (most_regions - length rs) no_region)
-
-pub holding_result : (rs : List Region) → length rs ≤ most_regions → Holding (result_of (gives rs 0))
-holding_result rs h = record { few = h; whole = ap (λ (l : List Region). result_of (gives l 0)) (sym (held_result rs)) }
+pub held_padded : (known : Regions) (rs : List Region) → known.count ≡ length rs → known.list ≡ padded rs → held known ≡ rs
+held_padded known rs n l = rw (n, l) (take-append_seam rs (replicate (most_regions - length rs) no_region))
 
 pub length_snoc : (rs : List Region) (r : Region) → length (rs ++ (r ∷ [])) ≡ length rs + 1
 length_snoc rs r = length-append rs (r ∷ [])
@@ -39,35 +34,6 @@ padded_snoc : (rs : List Region) (r : Region) → length rs < most_regions → s
 padded_snoc rs r h =
     let more : most_regions - length rs ≡ suc (most_regions - (length rs + 1)) = omega arith in
     rw (length_snoc rs r, more, append_snoc) (set-append_seam rs no_region (replicate (most_regions - (length rs + 1)) no_region) r)
-
-snoc : (rs : List Region) (r : Region) (number place count : ℕ) (list : List Region)
-    → number ≡ 0
-    → place ≡ 0
-    → count ≡ length rs
-    → list ≡ padded rs
-    → count < most_regions
-    → ◌≡◌ {A = Regions} (record { refusal = number; place = place; count = count + 1; list = set list count r }) (result_of (gives (rs ++ (r ∷ [])) 0))
-snoc rs r number place count list p q n l h =
-    let same : set list count r ≡ padded (rs ++ (r ∷ [])) = rw (l, n) (padded_snoc rs r (omega arith)) in
-    rw (p, q, same, length_snoc rs r, n)
-
-pub added : (known : Regions) (r : Region)
-    → Holding known
-    → known.count < most_regions
-    → ◌≡◌ {A = Regions} (record {
-      refusal = known.refusal;
-      place = known.place;
-      count = known.count + 1;
-      list = set known.list known.count
-          r;
-    })
-    (result_of (gives (held known ++ (r ∷ [])) 0))
-added known r h few =
-    snoc (held known) r known.refusal known.place known.count known.list (ap (λ (k : Regions). k.refusal) h.whole)
-    (ap (λ (k : Regions). k.place) h.whole)
-    (ap (λ (k : Regions). k.count) h.whole)
-    (ap (λ (k : Regions). k.list) h.whole)
-    few
 
 module _ (s : List ℕ) where
   pub from_end : (more : ℕ) (before : List Region) (at : ℕ) → at ≡ length s → regions_from more before s at ≡ gives before at
@@ -97,105 +63,80 @@ module _ (s : List ℕ) where
     unfolding regions_from next_region
     from_next at e = rw (ne_eqb at (length s) e) (steps (region before s at))
 
--- one region more: the text ends here; nothing more can be held; what the next region gives
-module _ (s : List ℕ) (known : Regions) (at : ℕ) where
-  pub one_end : at ≡ length s → one_more known s at ≡ finished known
+-- what follows the regions before and one more, or none
+abbrev pub goes_on : List ℕ → List Region → Option Region → ℕ → Read (List Region)
+goes_on s before None next = gives before next
+goes_on s before (Some r) next = regions_from (most_regions - (length before + 1)) (before ++ (r ∷ [])) s next
+
+module _ (s : List ℕ) (before : List Region) where
+  -- a region that is read, as one of those that may be
+  again : (x : Read Region) → (x then rest s (most_regions - (length before + 1)) before) ≡ ((x then λ r next. gives (Some r) next) then goes_on s before)
+  again (gives r next) = refl
+  again (refuses number at) = refl
+
+  pub from_more : (at : ℕ) → length before ≤ most_regions → regions_from (most_regions - length before) before s at ≡ (one_more before s at then goes_on s before)
   unfolding one_more
-  one_end e = rw (eq-eqb at (length s) e)
-
-  module _ (inside : at ≡ length s → ⊥) where
-    pub one_full : most_regions ≤ known.count → one_more known s at ≡ finished (result_of (refuses 23 at))
-    unfolding one_more
-    one_full full = rw (ne_eqb at (length s) inside, le-leb most_regions known.count full)
-
-    pub one_next : known.count < most_regions → one_more known s at ≡ after_region (held known) (next_region (held known) s at)
-    unfolding one_more
-    one_next few = rw (ne_eqb at (length s) inside, lt-leb most_regions known.count few)
-
--- what reading on from here gives in the end, and how many turns it takes at the most
-abbrev onward : Bool → List ℕ → Progress → Regions
-onward more s p = if more then result_of (regions_from (most_regions - p.known.count) (held p.known) s p.next) else p.known
-
-abbrev pub comes_to : List ℕ → Progress → Regions
-comes_to s p = onward p.more s p
-
-abbrev pub turns_left : Progress → ℕ
-turns_left p = if p.more then most_regions + 1 - p.known.count else 0
-
--- one region more leaves what the text gives as it was, with fewer turns left
-pub record Turned (s : List ℕ) (known : Regions) (at : ℕ) (p : Progress) : Type 0 where
-  pub comes : comes_to s p ≡ result_of (regions_from (most_regions - known.count) (held known) s at)
-  pub holding : p.more ≡ true → Holding p.known
-  pub less : turns_left p < most_regions + 1 - known.count
-
-module _ (s : List ℕ) (known : Regions) (at : ℕ) (h : Holding known) where
-  ends : (answer : Regions) → answer ≡ result_of (regions_from (most_regions - known.count) (held known) s at) → Turned s known at (finished answer)
-  ends answer e = record { comes = e; holding = λ no. absurd (false≢true no); less = let few = h.few in omega arith }
-
-  module _ (few : known.count < most_regions) (inside : at ≡ length s → ⊥) where
-    count_held : known.count ≡ length (held known)
-    count_held = ap (λ (k : Regions). k.count) h.whole
-
-    next : regions_from (most_regions - known.count) (held known) s at ≡ (next_region (held known) s at then rest s (most_regions - (known.count + 1)) (held known))
-    next =
-        let more : most_regions - known.count ≡ suc (most_regions - (known.count + 1)) = omega arith in
-        rw more (from_next s (most_regions - (known.count + 1)) (held known) at inside)
-
-    after : (x : Read Region) → next_region (held known) s at ≡ x → Turned s known at (after_region (held known) x)
-    after (refuses number place) e =
-        ends (result_of (refuses number place))
-        (ap result_of (sym (next ∙ then_refused (next_region (held known) s at) (rest s (most_regions - (known.count + 1)) (held known)) number place e)))
-    after (gives r place) e =
-        let size : length (held known ++ (r ∷ [])) ≡ known.count + 1 = length_snoc (held known) r ∙ ap (λ (n : ℕ). n + 1) (sym count_held) in
-        let on : regions_from (most_regions - (known.count + 1)) (held known ++ (r ∷ [])) s place ≡ regions_from (most_regions - known.count) (held known) s at =
-        sym (next ∙ then_given (next_region (held known) s at) (rest s (most_regions - (known.count + 1)) (held known)) r place e) in
-        record {
-          comes = rw (held_result (held known ++ (r ∷ [])), size) (ap result_of on);
-          holding = λ _. holding_result (held known ++ (r ∷ [])) (omega arith);
-          less = omega arith;
-        }
-
-  pub turned : Turned s known at (one_more known s at)
-  turned =
-      by_cases (eqb at (length s))
-      (λ e.
-      let end : at ≡ length s = eqb-true at (length s) e in
-      rw (one_end s known at end) (ends known (h.whole ∙ ap result_of (sym (from_end s (most_regions - known.count) (held known) at end)))))
+  from_more at few =
+      by_cases (eqb at (length s)) (λ e. rw e (from_end s (most_regions - length before) before at (eqb-true at (length s) e)))
       (λ e.
       let inside : at ≡ length s → ⊥ = eqb-false at (length s) e in
-      by_cases (leb most_regions known.count)
+      rw e
+      (by_cases (leb most_regions (length before))
       (λ f.
-      let none : most_regions - known.count ≡ 0 = omega (arith, leb-true most_regions known.count f) in
-      rw (one_full s known at inside (leb-true most_regions known.count f))
-      (ends (result_of (refuses 23 at)) (rw none (ap result_of (sym (from_full s (held known) at inside))))))
+      let none : most_regions - length before ≡ 0 = omega (arith, leb-true most_regions (length before) f) in
+      rw (f, none) (from_full s before at inside))
       (λ f.
-      let few : known.count < most_regions = leb-false most_regions known.count f in
-      rw (one_next s known at inside few) (after few inside (next_region (held known) s at) refl)))
+      let more : most_regions - length before ≡ suc (most_regions - (length before + 1)) = omega (arith, leb-false most_regions (length before) f) in
+      rw (f, more) (from_next s (most_regions - (length before + 1)) before at inside ∙ again (next_region before s at)))))
 
--- the text is being read: what it gives is what reading on gives
-pub record Reading (s : List ℕ) (p : Progress) : Type 0 where
-  pub comes : comes_to s p ≡ result_of (regions s)
-  pub holding : p.more ≡ true → Holding p.known
+  -- one region more was room for
+  pub few_before : (at : ℕ) (r : Region) (next : ℕ) → gives (Some r) next ≡ one_more before s at → length before < most_regions
+  unfolding one_more
+  few_before at r next =
+      by_cases (eqb at (length s)) (λ e. rw e (λ w. absurd (let z : ◌≡◌ {A = ℕ} 0 1 = cc in omega arith)))
+      (λ e.
+      rw e
+      (by_cases (leb most_regions (length before)) (λ f. rw f (λ w. absurd (let z : ◌≡◌ {A = ℕ} 0 1 = cc in omega arith)))
+      (λ f w. leb-false most_regions (length before) f)))
 
-pub begins : (s : List ℕ) → Reading s (begun s)
+-- the text is being read: its regions so far are held, and what it gives is what reading on from here gives
+pub record Reading (s : List ℕ) (known : Regions) (at : ℕ) : Type 0 where
+  pub count : known.count ≡ length (held known)
+  pub list : known.list ≡ padded (held known)
+  pub comes : regions s ≡ regions_from (most_regions - length (held known)) (held known) s at
+
+reading : (s : List ℕ) (known : Regions) (at : ℕ) (rs : List Region) → known.count ≡ length rs → known.list ≡ padded rs
+    → regions s ≡ regions_from (most_regions - length rs) rs s at
+    → Reading s known at
+reading s known at rs n l e =
+    let holds : held known ≡ rs = held_padded known rs n l in
+    record { count = n ∙ sym (ap length holds); list = l ∙ sym (ap padded holds); comes = rw holds e }
+
+pub begins : (s : List ℕ) (known : Regions) → length s ≤ most_text → known.count ≡ 0 → known.list ≡ padded [] → Reading s known 0
 unfolding regions
-begins s =
-    by_cases (ltb most_text (length s))
-    (λ e.
-    let refused : regions s ≡ refuses 24 most_text = rw e in
-    rw e (record { comes = ap result_of (sym refused); holding = λ no. absurd (false≢true no) }))
-    (λ e.
-    let all : regions s ≡ regions_from most_regions [] s 0 = rw e in
-    rw e (record { comes = ap result_of (sym all); holding = λ _. record { few = omega arith; whole = refl } }))
+begins s known h n l = reading s known 0 [] n l (rw (le-ltb most_text (length s) h))
 
-module _ (s : List ℕ) (p : Progress) (reading : Reading s p) where
-  either : (b : Bool) → p.more ≡ b → onward b s p ≡ result_of (regions s)
-  either b e = ap (λ (t : Bool). onward t s p) (sym e) ∙ reading.comes
+-- one region more is read from the text, t, after those that are held, before
+module _ (s : List ℕ) (known : Regions) (at : ℕ) (now : Reading s known at) (before : List Region) (t : List ℕ) (b : before ≡ held known) (same : t ≡ s) where
+  more : regions s ≡ (one_more before t at then goes_on s (held known))
+  more = rw (b, same) (now.comes ∙ from_more s (held known) at (let few = known.few in omega (arith, now.count)))
 
-  pub reads_on : p.more ≡ true → Reading s (one_more p.known s p.next) × (turns_left (one_more p.known s p.next) < turns_left p)
-  reads_on more =
-      let t = turned s p.known p.next (reading.holding more) in
-      (record { comes = t.comes ∙ either true more; holding = t.holding }, rw more t.less)
+  pub reads_refused : (number place : ℕ) → refuses number place ≡ one_more before t at → regions s ≡ refuses number place
+  reads_refused number place e = more ∙ then_refused (one_more before t at) (goes_on s (held known)) number place (sym e)
 
-  pub reads_end : p.more ≡ false → p.known ≡ result_of (regions s)
-  reads_end stops = either false stops
+  pub reads_end : (next : ℕ) → gives None next ≡ one_more before t at → regions s ≡ gives (held known) next
+  reads_end next e = more ∙ then_given (one_more before t at) (goes_on s (held known)) None next (sym e)
+
+  module _ (r : Region) (next : ℕ) (e : gives (Some r) next ≡ one_more before t at) where
+    pub reads_few : known.count < most_regions
+    reads_few = omega (arith, now.count, ap length b, few_before t before at r next e)
+
+    pub reads_on : (after : Regions) → after.count ≡ known.count + 1 → after.list ≡ set known.list known.count r → Reading s after next
+    reads_on after n l =
+        let few = reads_few in
+        let size : length (held known ++ (r ∷ [])) ≡ length (held known) + 1 = length_snoc (held known) r in
+        let whole : after.list ≡ padded (held known ++ (r ∷ [])) =
+        l ∙ ap (λ (k : ℕ). set known.list k r) now.count ∙ ap (λ (k : List Region). set k (length (held known)) r) now.list
+        ∙ padded_snoc (held known) r (omega (arith, now.count)) in
+        reading s after next (held known ++ (r ∷ [])) (omega (arith, size, now.count)) whole
+        (more ∙ then_given (one_more before t at) (goes_on s (held known)) (Some r) next (sym e) ∙ rw size)

@@ -1,8 +1,8 @@
--- What a caller learns from the record that it is handed: a refusal of the text is never 0, so the record's first number tells the two cases apart. Assumes nothing.
+-- What a caller learns from what it is handed: each refusal of the text has a number above 0, and at most so many regions are given. Assumes nothing.
 --     part_regions        of a text that is not too long no refusal's number is 0 or 24, and at most `most_regions` are given
 --     sound_regions       of any text: each refusal's number is above 0, and at most `most_regions` are given
---     answer_refused      a number that is not 0 is the text's refusal, with its place
---     answer_given        0: the regions held are those of the text
+--     answer_refused      a refusal is the text's, with its place
+--     answer_given        the regions held are those of the text
 use Prim.Native.Nat.{ℕ, zero, suc, ◌+◌, ◌≤◌, ◌<◌}
 use native.Mathlib.Omega.{arith}
 use mathlib.Core.Path.{◌≡◌, refl, sym, ap, ◌∙◌}
@@ -12,7 +12,9 @@ use mathlib.Core.List.{List, [], ◌∷◌, ◌++◌}
 use lib.Dec.{ltb, eqb}
 use lib.ListN.{length}
 use borrow.Author.Tests.{le-ltb}
-use Rattle.std.specs.Prelude.{if◌then◌else◌}
+use Rattle.std.specs.Prelude.{Ok, Err, if◌then◌else◌}
+use Rattle.answer.specs.Answers.{number_of}
+use Rattle.answer.specs.declared.Refused.{Refused}
 use Rattle.search.proofs.Bools.{by_cases}
 use Rattle.regions.specs.declared.Region.{Region}
 use Rattle.regions.specs.declared.Regions.{Regions}
@@ -22,9 +24,10 @@ use Rattle.text.specs.Numbers.{is_digit, is_hex, digits, number, most_bytes}
 use Rattle.text.specs.Reading.{Read, gives, refuses, ◌then◌, refuse_if}
 use Rattle.regions.specs.Amounts.{amount}
 use Rattle.regions.specs.Text.{is_named, expect, optional, size, start, alignment, is_first_fit, allocator, region, most_text, most_regions, regions_from, regions}
-use Rattle.regions.specs.Result.{result_of}
+use Rattle.regions.specs.Outcome.{outcome}
+use Rattle.regions.specs.Result.{result_of, padded}
 use Rattle.regions.specs.Steps.Progress.{held}
-use Rattle.regions.proofs.Listing.{held_result, length_snoc}
+use Rattle.regions.proofs.Listing.{held_padded, length_snoc}
 
 -- what is given has a property, and a refusal's number is above 0
 abbrev pub Sound : {A : Type 0} → (A → Type 0) → Read A → Type 0
@@ -133,26 +136,30 @@ module _ (s : List ℕ) where
   sound_regions =
       by_cases (ltb most_text (length s)) (λ e. rw e (omega arith)) (λ e. rw e (sound_part Few (regions_from most_regions [] s 0) (part_from most_regions [] 0 (omega arith))))
 
--- the regions of an answer
+-- the regions that a caller is handed are those of the text
 pub record Given (s : List ℕ) (r : Regions) : Type 0 where
   pub end : ℕ
   pub is : regions s ≡ gives (held r) end
   pub count : length (held r) ≡ r.count
-  pub few : r.count ≤ most_regions
 
-refused_of : (x : Read (List Region)) (r : Regions) → r ≡ result_of x → (r.refusal ≡ 0 → ⊥) → x ≡ refuses r.refusal r.place
-refused_of (gives rs at) r e h = absurd (h (ap (λ (k : Regions). k.refusal) e))
-refused_of (refuses number at) r e h = rw e
+refused_of : (x : Read (List Region)) (n place : ℕ) → refuses n place ≡ result_of x → x ≡ refuses n place
+refused_of (gives rs at) n place e = absurd (let z : ◌≡◌ {A = ℕ} 0 1 = cc in omega arith)
+refused_of (refuses m at) n place e =
+    let same : m ≡ n = cc in
+    let there : at ≡ place = cc in
+    rw (same, there)
 
-pub answer_refused : (s : List ℕ) (r : Regions) → r ≡ result_of (regions s) → (r.refusal ≡ 0 → ⊥) → regions s ≡ refuses r.refusal r.place
-answer_refused s r e h = refused_of (regions s) r e h
+pub answer_refused : (s : List ℕ) (e : Refused) → outcome (Err e) ≡ result_of (regions s) → regions s ≡ refuses (number_of e.refusal) e.place
+answer_refused s e same = refused_of (regions s) (number_of e.refusal) e.place same
 
-given_of : (s : List ℕ) (x : Read (List Region)) (r : Regions) → regions s ≡ x → Sound Few x → r ≡ result_of x → r.refusal ≡ 0 → Given s r
-given_of s (gives rs at) r same few e h =
-    let holds : held r ≡ rs = ap held e ∙ held_result rs in
-    let size : r.count ≡ length rs = ap (λ (k : Regions). k.count) e in
-    record { end = at; is = same ∙ ap (λ (l : List Region). gives l at) (sym holds); count = ap length holds ∙ sym size; few = omega arith }
-given_of s (refuses number at) r same above e h = absurd (let zero_number : r.refusal ≡ number = ap (λ (k : Regions). k.refusal) e in omega arith)
+given_of : (s : List ℕ) (x : Read (List Region)) (r : Regions) → regions s ≡ x → gives (r.count, r.list) 0 ≡ result_of x → Given s r
+given_of s (gives rs at) r same e =
+    let both : ◌≡◌ {A = ℕ × List Region} (r.count, r.list) (length rs, padded rs) = cc in
+    let size : r.count ≡ length rs = ap (λ p. p.0) both in
+    let list : r.list ≡ padded rs = ap (λ p. p.1) both in
+    let holds : held r ≡ rs = held_padded r rs size list in
+    record { end = at; is = same ∙ ap (λ (l : List Region). gives l at) (sym holds); count = ap length holds ∙ sym size }
+given_of s (refuses n at) r same e = absurd (let z : ◌≡◌ {A = ℕ} 0 1 = cc in omega arith)
 
-pub answer_given : (s : List ℕ) (r : Regions) → r ≡ result_of (regions s) → r.refusal ≡ 0 → Given s r
-answer_given s r e h = given_of s (regions s) r refl (sound_regions s) e h
+pub answer_given : (s : List ℕ) (r : Regions) → outcome (Ok r) ≡ result_of (regions s) → Given s r
+answer_given s r e = given_of s (regions s) r refl e

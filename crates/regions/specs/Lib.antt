@@ -1,4 +1,5 @@
 pub mod Amounts
+pub mod Outcome
 pub mod Promises
 pub mod Result
 pub mod Text

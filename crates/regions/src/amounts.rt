@@ -4,12 +4,13 @@ ghost use Rattle.text.specs.Reading.{scanned};
 ghost use Rattle.regions.specs.Amounts.{amount};
 ghost use Rattle.regions.specs.Steps.Parts.{wrong_for, judged};
 
-use answer::refusal;
-use text::Scan;
+use answer::{Refusal, Refused};
+use text::Scanned;
 use text::numbers::{MOST_BYTES, number};
 
-// What a number is for: what it may not be goes by this.
-#[derive(Clone, Copy)]
+// What a number is for: what it may not be goes by this. A closure in its place is no plainer: each contract
+// here would have to say what the closure computes.
+#[derive(Clone, Copy, Debug, PartialEq, Eq)]
 pub enum Purpose {
     Size,
     Start,
@@ -27,23 +28,22 @@ fn is_wrong(purpose: Purpose, v: u64) -> bool
 }
 
 // A number that was read is judged where it stands.
-fn judged(purpose: Purpose, v: u64, at: usize, next: usize) -> Scan
+fn judged(purpose: Purpose, v: u64, at: usize, next: usize) -> Scanned<u64>
     ensures { scanned result ≡ judged (wrong_for purpose) at v next }
 {
-    if MOST_BYTES < v {
-        return Scan::Refuses(refusal::BAD_AMOUNT, at);
+    if MOST_BYTES < v || is_wrong(purpose, v) {
+        return Err(Refused {
+            refusal: Refusal::BadAmount,
+            place: at,
+        });
     }
-    if is_wrong(purpose, v) {
-        return Scan::Refuses(refusal::BAD_AMOUNT, at);
-    }
-    Scan::Gives(v, next)
+    Ok((v, next))
 }
 
-pub fn amount(text: &[u8], at: usize, purpose: Purpose) -> Scan
+#[tactic(auto, using(crate::proofs::Judging::amount_refused, crate::proofs::Judging::amount_given))]
+pub fn amount(text: &[u8], at: usize, purpose: Purpose) -> Scanned<u64>
     ensures { scanned result ≡ amount (wrong_for purpose) text.now at }
 {
-    match number(text, at) {
-        Scan::Refuses(refusal, place) => Scan::Refuses(refusal, place),
-        Scan::Gives(v, next) => judged(purpose, v, at, next),
-    }
+    let (v, next) = number(text, at)?;
+    judged(purpose, v, at, next)
 }

@@ -1,18 +1,18 @@
 // The regions text: which areas a boot declares.
 #![tactic(auto)]
 
-ghost use Rattle.std.specs.Prelude.{◌≡◌};
+ghost use Rattle.std.specs.Prelude.{◌≡◌, ◌+◌, ◌≤◌, ◌<◌, [], slice_set, replicate};
 ghost use Rattle.regions.specs.Amounts.{is_alignment};
-ghost use Rattle.regions.specs.Text.{regions};
-ghost use Rattle.regions.specs.Result.{result_of};
-ghost use Rattle.regions.specs.Steps.Progress.{Holding, begun, one_more};
+ghost use Rattle.regions.specs.Result.{no_region};
+ghost use Rattle.regions.specs.Text.{most_regions};
 
 mod amounts;
 mod list;
 mod names;
 mod parts;
+mod reader;
 
-use list::Progress;
+pub use reader::read_regions;
 
 // The longest text, in bytes.
 pub const MOST_TEXT: usize = 8192;
@@ -21,7 +21,7 @@ pub const MOST_TEXT: usize = 8192;
 pub const MOST_REGIONS: usize = 64;
 
 // A region of the text: where its name stands and how long it is, and its amounts in bytes; an amount that is not given is 0.
-#[derive(Clone, Copy)]
+#[derive(Clone, Copy, Debug, PartialEq, Eq, Default)]
 pub struct Region {
     pub name: usize,
     pub length: usize,
@@ -30,69 +30,48 @@ pub struct Region {
     pub alignment: u64,
 }
 
-// What a text gives: its regions, or its refusal's number and place. Entries after the count are all zero, and so are all where it is refused.
+// The regions that a text gives: the first `count` of the list. Entries after the count are all zero.
 #[derive(Clone, Copy)]
 pub struct Regions {
-    pub refusal: u64,
-    pub place: usize,
     pub count: usize,
     pub list: [Region; MOST_REGIONS],
+    pub ghost few: { count ≤ most_regions },
+}
+
+impl Regions {
+    ghost use Rattle.regions.specs.Steps.Progress.{held};
+
+    // No regions.
+    fn none() -> Regions
+        ensures count { result.count ≡ 0 }
+        ensures list { result.list ≡ replicate most_regions no_region }
+    {
+        Regions {
+            count: 0,
+            list: [Region::default(); MOST_REGIONS],
+        }
+    }
+
+    pub fn as_slice(&self) -> &[Region]
+        ensures { result.now ≡ held self.now }
+    {
+        &self.list[..self.count]
+    }
+
+    // One region more, after the others.
+    fn push(&mut self, region: Region)
+        requires { self.old.count < most_regions }
+        ensures count { self.new.count ≡ self.old.count + 1 }
+        ensures list { self.new.list ≡ slice_set self.old.list self.old.count region }
+    {
+        self.list[self.count] = region;
+        self.count += 1;
+    }
 }
 
 // An alignment is 0, where none is asked, or a power of two.
 pub fn is_alignment(x: u64) -> bool
     ensures { result ≡ is_alignment x }
 {
-    if x == 0 {
-        return true;
-    }
-    let mut k: u64 = 0;
-    while k < 64 {
-        if x == 1u64 << k {
-            return true;
-        }
-        k += 1;
-    }
-    false
-}
-
-// A reader of regions: it keeps hold of the text and of how far it has read it, so of its place, the offset where it reads on.
-#[derive(Clone, Copy)]
-struct Reader<'a> {
-    text: &'a [u8],
-    progress: Progress,
-}
-
-impl<'a> Reader<'a> {
-    // A reader at the first byte of a text, whose length is judged before.
-    fn new(text: &'a [u8]) -> Reader<'a>
-        ensures { (result.text ≡ text.entry) × (result.progress ≡ begun text.now) }
-    {
-        let progress = list::begun(text);
-        Reader { text, progress }
-    }
-
-    // Reads one region from the reader's place. The reader comes back at the next place, with the region among those that it has read.
-    fn read_on(self) -> Reader<'a>
-        requires { Holding self.progress.known }
-        ensures { (result.text ≡ self.entry.text)
-            × (result.progress ≡ one_more self.entry.progress.known self.entry.text.now self.entry.progress.next) }
-    {
-        let progress = list::one_more(self.text, self.progress.next, self.progress.known);
-        Reader {
-            text: self.text,
-            progress,
-        }
-    }
-}
-
-// The regions of a text. The reader reads on, one region after the other, for as long as there is more to read.
-pub fn read_regions(text: &[u8]) -> Regions
-    ensures { result ≡ result_of (regions text.now) }
-{
-    let mut reader = Reader::new(text);
-    while reader.progress.more {
-        reader = reader.read_on();
-    }
-    reader.progress.known
+    x == 0 || x.is_power_of_two()
 }

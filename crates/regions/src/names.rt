@@ -1,82 +1,76 @@
 // Names of regions, and of their allocator.
 ghost use Rattle.std.specs.Prelude.{◌≡◌};
+ghost use Rattle.text.specs.Names.{name};
 ghost use Rattle.text.specs.Reading.{scanned};
 ghost use Rattle.regions.specs.Text.{is_named, is_first_fit, allocator};
 ghost use Rattle.regions.specs.Steps.Parts.{same_name, new_name};
-ghost use Rattle.regions.specs.Steps.Progress.{held, Holding};
 
-use crate::{Region, Regions};
-use answer::refusal;
-use text::Scan;
+use crate::Region;
+use crate::parts::expect;
+use answer::{Refusal, Refused};
+use text::Scanned;
 use text::bytes::{byte_after, byte_at};
 use text::names::{name_length, same_bytes};
 
 fn same_name(text: &[u8], at: usize, n: usize, region: Region) -> bool
     ensures { result ≡ same_name region text.now at n }
 {
-    if region.length != n {
-        return false;
-    }
-    same_bytes(text, at, region.name, n)
+    region.length == n && same_bytes(text, at, region.name, n)
 }
 
 // One of the regions has the name of n bytes at an offset.
-fn is_named(text: &[u8], at: usize, n: usize, known: Regions) -> bool
-    requires { Holding known }
-    ensures { result ≡ is_named (held known) text.now at n }
+fn is_named(text: &[u8], at: usize, n: usize, before: &[Region]) -> bool
+    ensures { result ≡ is_named before.now text.now at n }
 {
-    let mut i = 0;
-    while i < known.count {
-        let region = known.list[i];
-        if same_name(text, at, n, region) {
-            return true;
-        }
-        i += 1;
-    }
-    false
+    before.iter().any(|region| same_name(text, at, n, *region))
 }
 
-// A name that no region has yet, and the = after it: gives its length.
-pub fn new_name(text: &[u8], at: usize, known: Regions) -> Scan
-    requires { Holding known }
-    ensures { scanned result ≡ new_name (held known) text.now at }
+// A name, of one byte at the least: gives its length.
+fn name(text: &[u8], at: usize) -> Scanned<usize>
+    ensures { scanned result ≡ name text.now at }
 {
     let n = name_length(text, at);
     if n == 0 {
-        return Scan::Refuses(refusal::UNEXPECTED_BYTE, at);
+        return Err(Refused {
+            refusal: Refusal::UnexpectedByte,
+            place: at,
+        });
     }
-    if is_named(text, at, n, known) {
-        return Scan::Refuses(refusal::NAME_REPEATED, at);
+    Ok((n, at + n))
+}
+
+// A name that no region has yet, and the = after it: gives its length.
+#[tactic(auto, using(std::proofs::lemmas::Bool::Decides::nat_tests), unfolding(crate::specs::Steps::Parts::new_name))]
+pub fn new_name(text: &[u8], at: usize, before: &[Region]) -> Scanned<usize>
+    ensures { scanned result ≡ new_name before.now text.now at }
+{
+    let (n, end) = name(text, at)?;
+    if is_named(text, at, n, before) {
+        return Err(Refused {
+            refusal: Refusal::NameRepeated,
+            place: at,
+        });
     }
-    let end = at + n;
-    if byte_at(text, end) != b'=' {
-        return Scan::Refuses(refusal::UNEXPECTED_BYTE, end);
-    }
-    Scan::Gives(n as u64, end + 1)
+    let (_, next) = expect(text, end, b'=')?;
+    Ok((n, next))
 }
 
 // The only allocator is ff.
 fn is_first_fit(text: &[u8], at: usize, n: usize) -> bool
     ensures { result ≡ is_first_fit text.now at n }
 {
-    if n != 2 {
-        return false;
-    }
-    if byte_at(text, at) != b'f' {
-        return false;
-    }
-    byte_after(text, at, 1) == b'f'
+    n == 2 && byte_at(text, at) == b'f' && byte_after(text, at, 1) == b'f'
 }
 
-pub fn allocator(text: &[u8], at: usize) -> Scan
+pub fn allocator(text: &[u8], at: usize) -> Scanned<usize>
     ensures { scanned result ≡ allocator text.now at }
 {
-    let n = name_length(text, at);
-    if n == 0 {
-        return Scan::Refuses(refusal::UNEXPECTED_BYTE, at);
-    }
+    let (n, end) = name(text, at)?;
     if !is_first_fit(text, at, n) {
-        return Scan::Refuses(refusal::UNKNOWN_ALLOCATOR, at);
+        return Err(Refused {
+            refusal: Refusal::UnknownAllocator,
+            place: at,
+        });
     }
-    Scan::Gives(n as u64, at + n)
+    Ok((n, end))
 }

@@ -1,110 +1,69 @@
-// A region, part by part: each function reads one part and hands what is left to the next.
+// A region, part by part, from left to right: each part is read where the one before it ended.
 ghost use Rattle.std.specs.Prelude.{◌≡◌, ◌<◌};
 ghost use Rattle.text.specs.Reading.{scanned};
 ghost use Rattle.regions.specs.Amounts.{amount};
-ghost use Rattle.regions.specs.Text.{optional, allocator, region};
-ghost use Rattle.regions.specs.Steps.Parts.{wrong_for, region_read, allocated_from, aligned_from, started_from, sized_from, bare_region};
-ghost use Rattle.regions.specs.Steps.Progress.{held, Holding};
+ghost use Rattle.regions.specs.Text.{expect, optional, allocator, region};
+ghost use Rattle.regions.specs.Steps.Parts.{wrong_for};
 
+use crate::Region;
 use crate::amounts::{Purpose, amount};
 use crate::names::{allocator, new_name};
-use crate::{Region, Regions};
-use text::Scan;
+use answer::{Refusal, Refused};
+use text::Scanned;
 use text::bytes::byte_at;
 
-// What reading a region gives: the region and the offset after it, or a refusal's number and its place.
-#[derive(Clone, Copy)]
-pub enum Found {
-    Gives(Region, usize),
-    Refuses(u64, usize),
+// A byte that must stand at an offset.
+pub fn expect(text: &[u8], at: usize, byte: u8) -> Scanned<u8>
+    requires { 0 < byte }
+    ensures { scanned result ≡ expect byte text.now at }
+{
+    if byte_at(text, at) != byte {
+        return Err(Refused {
+            refusal: Refusal::UnexpectedByte,
+            place: at,
+        });
+    }
+    Ok((byte, at + 1))
 }
 
 // An amount that a byte announces, or 0.
-fn optional_amount(text: &[u8], at: usize, byte: u8, purpose: Purpose) -> Scan
+fn optional_amount(text: &[u8], at: usize, byte: u8, purpose: Purpose) -> Scanned<u64>
     requires { 0 < byte }
     ensures { scanned result ≡ optional byte (amount (wrong_for purpose)) 0 text.now at }
 {
     if byte_at(text, at) != byte {
-        return Scan::Gives(0, at);
+        return Ok((0, at));
     }
     amount(text, at + 1, purpose)
 }
 
-fn optional_allocator(text: &[u8], at: usize) -> Scan
+// An allocator that a : announces, or none. The part that is read is all that this and the function above differ in, but a closure for it is no
+// plainer: it would ask for a contract at each of the three calls.
+fn optional_allocator(text: &[u8], at: usize) -> Scanned<usize>
     ensures { scanned result ≡ optional 58 allocator 0 text.now at }
 {
     if byte_at(text, at) != b':' {
-        return Scan::Gives(0, at);
+        return Ok((0, at));
     }
     allocator(text, at + 1)
 }
 
-fn allocated(text: &[u8], at: usize, region: Region) -> Found
-    ensures { region_read result ≡ allocated_from region text.now at }
+// A region: its name, its size and what may follow.
+#[tactic(auto, using(crate::proofs::Naming::region_steps))]
+pub fn region_at(text: &[u8], at: usize, before: &[Region]) -> Scanned<Region>
+    ensures { scanned result ≡ region before.now text.now at }
 {
-    match optional_allocator(text, at) {
-        Scan::Refuses(refusal, place) => Found::Refuses(refusal, place),
-        Scan::Gives(_, next) => Found::Gives(region, next),
-    }
-}
-
-fn aligned(text: &[u8], at: usize, region: Region) -> Found
-    ensures { region_read result ≡ aligned_from region text.now at }
-{
-    match optional_amount(text, at, b'/', Purpose::Alignment) {
-        Scan::Refuses(refusal, place) => Found::Refuses(refusal, place),
-        Scan::Gives(v, next) => {
-            let mut more = region;
-            more.alignment = v;
-            allocated(text, next, more)
-        }
-    }
-}
-
-fn started(text: &[u8], at: usize, region: Region) -> Found
-    ensures { region_read result ≡ started_from region text.now at }
-{
-    match optional_amount(text, at, b'@', Purpose::Start) {
-        Scan::Refuses(refusal, place) => Found::Refuses(refusal, place),
-        Scan::Gives(v, next) => {
-            let mut more = region;
-            more.start = v;
-            aligned(text, next, more)
-        }
-    }
-}
-
-fn sized(text: &[u8], at: usize, region: Region) -> Found
-    ensures { region_read result ≡ sized_from region text.now at }
-{
-    match amount(text, at, Purpose::Size) {
-        Scan::Refuses(refusal, place) => Found::Refuses(refusal, place),
-        Scan::Gives(v, next) => {
-            let mut more = region;
-            more.size = v;
-            started(text, next, more)
-        }
-    }
-}
-
-fn bare_region(name: usize, length: usize) -> Region
-    ensures { result ≡ bare_region name length }
-{
-    Region {
-        name,
+    let (length, end) = new_name(text, at, before)?;
+    let (size, size_end) = amount(text, end, Purpose::Size)?;
+    let (start, start_end) = optional_amount(text, size_end, b'@', Purpose::Start)?;
+    let (alignment, alignment_end) = optional_amount(text, start_end, b'/', Purpose::Alignment)?;
+    let (_, next) = optional_allocator(text, alignment_end)?;
+    let region = Region {
+        name: at,
         length,
-        size: 0,
-        start: 0,
-        alignment: 0,
-    }
-}
-
-pub fn region_at(text: &[u8], at: usize, known: Regions) -> Found
-    requires { Holding known }
-    ensures { region_read result ≡ region (held known) text.now at }
-{
-    match new_name(text, at, known) {
-        Scan::Refuses(refusal, place) => Found::Refuses(refusal, place),
-        Scan::Gives(n, next) => sized(text, next, bare_region(at, n as usize)),
-    }
+        size,
+        start,
+        alignment,
+    };
+    Ok((region, next))
 }

@@ -1,5 +1,6 @@
 pub mod Amounts
 pub mod Ends
+pub mod Fronts
 pub mod Lines
 pub mod Listing
-pub mod Sums
+pub mod OverAreas

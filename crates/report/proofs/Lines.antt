@@ -2,22 +2,17 @@
 --     line_most                 an area's line has at most 89 bytes
 --     lines_none, lines_next    the lines of no areas; of one area more
 --     lines_most                and the lines of n areas at most n times as many
---     line_place, line_after    a line appended after lines that stand at a buffer's front: the lines and then the line stand there
 use Prim.Native.Nat.{ℕ, zero, suc, ◌+◌, ◌*◌, ◌≤◌}
 use native.Mathlib.Numerals.{add-one}
 use native.Mathlib.Omega.{arith}
 use mathlib.Core.Path.{◌≡◌, refl}
 use mathlib.Core.List.{List, [], ◌++◌}
-use lib.ListN.{length, take, drop, length-append}
-use lib.Seq.{take-append_seam}
-use borrow.Author.Tests.{le-leb}
+use lib.ListN.{length, length-append}
 use Rattle.frames.specs.Tables.{Tables}
-use Rattle.text.specs.Writing.{has_room, written, Appended}
-use Rattle.text.proofs.Buffer.{appended_place}
 use Rattle.text.proofs.Texts.{four_most}
 use Rattle.rules.specs.declared.Record.{Record}
 use Rattle.rules.specs.Report.{sum_over, area_line, line_of_area, lines_over}
-use Rattle.report.proofs.Sums.{sum_none, sum_suc, sum_most}
+use Rattle.report.proofs.OverAreas.{sum_none, sum_suc, sum_most}
 
 pub line_most : (i count used chunk : ℕ) → length (area_line i count used chunk) ≤ 89
 unfolding area_line
@@ -41,19 +36,3 @@ module _ (line : ℕ → List ℕ) where
 
 pub lines_most : (m : Record) (t : Tables) (n : ℕ) → length (lines_over (line_of_area m t) n) ≤ n * 89
 lines_most m t n = rw (lines_length (line_of_area m t) n) (sum_most _ 89 n (λ k h. line_most _ _ _ _))
-
--- a line is appended where it has room
-module _
-    (out : List ℕ) (at : ℕ) (line after : List ℕ) (next : ℕ) (room : at + length line ≤ length out) (a : Appended out at line after next)
-  where
-    line_bytes : after ≡ take at out ++ line ++ drop (at + length line) out
-    unfolding has_room written
-    line_bytes = rw (le-leb (at + length line) (length out) room) at a.bytes
-
-    -- and lines stand before it
-    module _ (lines : List ℕ) (e : at ≡ length lines) where
-      pub line_place : next ≡ length (lines ++ line)
-      line_place = omega (arith, appended_place out at line after next a room, length-append lines line)
-
-      pub line_after : take at out ≡ lines → take next after ≡ lines ++ line
-      line_after f = rw (line_bytes, f, line_place) (take-append_seam (lines ++ line) _)

@@ -8,18 +8,18 @@ ghost use Rattle.std.specs.Prelude.{◌+◌, ◌*◌, ◌≤◌, ◌≡◌, ◌+
 ghost use Rattle.search.specs.Search.{longest};
 ghost use Rattle.bitmap.specs.Bits.{is_clear};
 ghost use Rattle.frames.specs.Areas.{per_bit, bit_count};
-ghost use Rattle.frames.specs.Lent.{entering};
-ghost use Rattle.text.specs.Writing.{Appended};
-ghost use Rattle.rules.specs.Does.{given, Answers};
+ghost use Rattle.frames.specs.Lent.{tables_in};
+ghost use Rattle.text.specs.Writing.{Appends};
+ghost use Rattle.rules.specs.Does.{record_in, Answers};
 ghost use Rattle.rules.specs.Report.{total_label, free_label, amount_line, area_line, report_of, report, reported};
-ghost use Rattle.report.specs.Steps.Listing.{Bounded, looked, Lists};
+ghost use Rattle.report.specs.Steps.Listing.{Bounded, Lists, PutWhole};
 
-use answer::{Answer, refusal};
-use bitmap::longest_clear;
-use frames::{Area, area_at, count_granted, place_of};
-use rules::Memory;
+use answer::{Numbers, Refusal};
+use bitmap::Bitmap;
+use frames::{Area, LentTables, area_at, count_granted, place_of};
+use rules::LentRecord;
 use shape::shape_right;
-use text::writing::{has_room, put_bytes, put_four, put_number};
+use text::writing::{Writer, has_room};
 
 // The room for an area's line, which has a label of five bytes and four numbers of at most twenty digits, for those of all areas, and for the two
 // lines before them.
@@ -29,130 +29,118 @@ const LINES: usize = Area::MOST * LINE;
 
 const SUMS: usize = 128;
 
-// What is known of the areas: their frames, how many of them are not granted, and the length of their lines.
+// What is known of the areas: their frames, and how many of them are not granted.
 #[derive(Clone, Copy)]
-struct Listed {
+struct Totals {
     total: u64,
     free: u64,
-    text: usize,
 }
 
 // An area's line.
-fn put_area(out: &mut [u8], at: usize, number: u64, count: u64, used: u64, chunk: u64) -> usize
-    requires { at + 89 ≤ length out.old }
-    ensures { Appended out.old at (area_line number count used chunk) out.new result }
+fn put_area(out: &mut Writer, number: u64, count: u64, used: u64, chunk: u64)
+    requires { out.old.length + 89 ≤ length out.old.buffer.now }
+    ensures { Appends (area_line number count used chunk) out.old out.new }
 {
-    let after_label = put_bytes(out, at, b"area ");
-    put_four(out, after_label, number, count, used, chunk)
+    out.put_bytes(b"area ");
+    out.put_four(number, count, used, chunk);
 }
 
 // A line with an amount.
-fn put_amount(out: &mut [u8], at: usize, label: &[u8], kilobytes: u64) -> usize
-    requires { at + length label.now + 24 ≤ length out.old }
-    ensures { Appended out.old at (amount_line label.now kilobytes) out.new result }
+fn put_amount(out: &mut Writer, label: &[u8], kilobytes: u64)
+    requires { out.old.length + length label.now + 24 ≤ length out.old.buffer.now }
+    ensures { Appends (amount_line label.now kilobytes) out.old out.new }
 {
-    let after_label = put_bytes(out, at, label);
-    let after_number = put_number(out, after_label, kilobytes);
-    put_bytes(out, after_number, b" kB\n")
+    out.put_bytes(label);
+    out.put_number(kilobytes);
+    out.put_bytes(b" kB\n");
 }
 
-// The frames of the longest stretch of clear bits, of an area whose bitmap begins at a word.
-fn max_chunk(area: Area, bitmap: &[u64], word: usize) -> u64
+// The frames of the longest stretch of clear bits of an area, by its bitmap.
+fn max_chunk(area: Area, bitmap: Bitmap) -> u64
     requires { (area.count ≤ 262144) × (area.order_per_bit ≤ 10) }
-    ensures { result ≡ per_bit area * longest (is_clear bitmap.now word) 0 (bit_count area) }
+    ensures { result ≡ per_bit area * longest (is_clear bitmap.entry.words.now bitmap.entry.start) 0 (bit_count area) }
 {
-    let bits = longest_clear(bitmap, word, area.bits() as usize);
+    let bits = bitmap.longest_clear(area.bits() as usize);
     (bits as u64) << area.order_per_bit
 }
 
 // The areas' lines, and the sums over all areas.
-fn list_areas(
-    memory: Memory,
-    areas: &[u64],
-    marks: &[u32],
-    bitmap: &[u64],
-    lines: &mut [u8],
-) -> Listed
-    requires { Bounded memory areas.now × (length lines.old ≡ 5696) }
-    ensures { Lists (given memory areas) (looked marks.now bitmap.now) memory.declared lines.new result }
+fn list_areas(lent: LentRecord, tables: &LentTables, lines: &mut Writer) -> Totals
+    requires { Bounded lent.memory lent.areas.now × (lines.old.length ≡ 0) × (length lines.old.buffer.now ≡ 5696) }
+    ensures { Lists (record_in lent.entry) (tables_in tables.now) lent.entry.memory.declared lines.old lines.new result }
 {
-    let declared = memory.declared as usize;
     let mut total = 0;
     let mut free = 0;
-    let mut text = 0;
-    let mut word = 0;
-    let mut i = 0;
-    while i < declared {
-        let area = area_at(areas, i);
-        let used = count_granted(marks, place_of(memory.base, area.base), area.count);
-        let chunk = max_chunk(area, bitmap, word);
-        text = put_area(lines, text, i as u64, area.count, used, chunk);
+    let mut start = 0;
+    for i in 0..lent.memory.declared as usize {
+        let area = area_at(lent.areas, i);
+        let first = place_of(lent.memory.base, area.base);
+        let used = count_granted(tables.marks, first, area.count);
+        let words: &[u64] = tables.bitmap;
+        let chunk = max_chunk(area, Bitmap { words, start });
+        put_area(lines, i as u64, area.count, used, chunk);
         total += area.count;
         free += area.count - used;
-        word += area.words() as usize;
-        i += 1;
+        start += area.words() as usize;
     }
-    Listed { total, free, text }
+    Totals { total, free }
 }
 
-// Two texts one after the other at the front of a buffer, both or neither.
-fn put_both(buffer: &mut [u8], first: &[u8], second: &[u8]) -> usize
-    ensures { Appended buffer.old 0 (first.now ++ second.now) buffer.new result }
+// Two texts one after the other at the front of a buffer, and their length: both or neither.
+fn put_both(buffer: &mut [u8], first: &[u8], second: &[u8]) -> Option<usize>
+    ensures { PutWhole (first.now ++ second.now) buffer.old buffer.new result }
 {
     if !has_room(buffer.len(), first.len(), second.len()) {
-        return 0;
+        return None;
     }
-    let after_first = put_bytes(buffer, 0, first);
-    put_bytes(buffer, after_first, second)
+    let mut out = Writer { buffer, length: 0 };
+    out.put_bytes(first);
+    out.put_bytes(second);
+    Some(out.length)
 }
 
 // The two lines before them, with the sums in kB.
-fn put_sums(out: &mut [u8], total: u64, free: u64) -> usize
-    requires { (total ≤ 16777216) × (free ≤ 16777216) × (128 ≤ length out.old) }
-    ensures { Appended out.old 0 (amount_line total_label (4 * total) ++ amount_line free_label (4 * free)) out.new result }
+fn put_sums(out: &mut Writer, sums: Totals)
+    requires { (sums.total ≤ 16777216) × (sums.free ≤ 16777216) × (out.old.length ≡ 0) × (128 ≤ length out.old.buffer.now) }
+    ensures { Appends (amount_line total_label (4 * sums.total) ++ amount_line free_label (4 * sums.free)) out.old out.new }
 {
-    let after_total = put_amount(out, 0, b"CmaTotal: ", 4 * total);
-    put_amount(out, after_total, b"CmaFree: ", 4 * free)
+    put_amount(out, b"CmaTotal: ", 4 * sums.total);
+    put_amount(out, b"CmaFree: ", 4 * sums.free);
 }
 
-// The report at the front of a buffer that has room for it.
-fn put_report(
-    memory: Memory,
-    areas: &[u64],
-    marks: &[u32],
-    bitmap: &[u64],
-    buffer: &mut [u8],
-) -> usize
-    requires { Bounded memory areas.now }
-    ensures { Appended buffer.old 0 (report_of (given memory areas) (looked marks.now bitmap.now)) buffer.new result }
+// The report at the front of a buffer, and its length, where it has room for it.
+fn put_report(lent: LentRecord, tables: &LentTables, buffer: &mut [u8]) -> Option<usize>
+    requires { Bounded lent.memory lent.areas.now }
+    ensures { PutWhole (report_of (record_in lent.entry) (tables_in tables.now)) buffer.old buffer.new result }
 {
     let mut lines = [0u8; LINES];
-    let listed = list_areas(memory, areas, marks, bitmap, &mut lines);
-    let mut sums = [0u8; SUMS];
-    let after_sums = put_sums(&mut sums, listed.total, listed.free);
-    let text = listed.text;
-    put_both(buffer, &sums[0..after_sums], &lines[0..text])
+    let mut listed = Writer {
+        buffer: &mut lines,
+        length: 0,
+    };
+    let sums = list_areas(lent, tables, &mut listed);
+    let lines_length = listed.length;
+    let mut head = [0u8; SUMS];
+    let mut summed = Writer {
+        buffer: &mut head,
+        length: 0,
+    };
+    put_sums(&mut summed, sums);
+    let head_length = summed.length;
+    put_both(buffer, &head[0..head_length], &lines[0..lines_length])
 }
 
 // The report is written to the front of a buffer that has room for it, and answers its length.
-pub fn report(
-    memory: Memory,
-    areas: &[u64],
-    marks: &[u32],
-    words: &[u64],
-    bitmap: &[u64],
-    owners: &[u32],
-    buffer: &mut [u8],
-) -> Answer
-    ensures answers { Answers (λ m. report m buffer.old) memory areas result marks words bitmap owners }
-    ensures buffer_after { buffer.new ≡ reported (given memory areas) buffer.old (entering marks words bitmap owners) }
+pub fn report(lent: LentRecord, tables: &LentTables, buffer: &mut [u8]) -> Result<Numbers, Refusal>
+    ensures answers { Answers (λ m. report m buffer.old) lent.entry result tables.now tables.now }
+    ensures buffer_after { buffer.new ≡ reported (record_in lent.entry) buffer.old (tables_in tables.now) }
 {
-    if !shape_right(memory, areas, marks, words, bitmap, owners) {
-        return Answer::refused(refusal::WRONG_SHAPE);
+    if !shape_right(lent, tables) {
+        return Err(Refusal::WrongShape);
     }
-    let length = put_report(memory, areas, marks, bitmap, buffer);
-    if length == 0 {
-        return Answer::refused(refusal::BUFFER_TOO_SHORT);
-    }
-    Answer::done(length as u64, 0)
+    let length = put_report(lent, tables, buffer).ok_or(Refusal::BufferTooShort)?;
+    Ok(Numbers {
+        first: length as u64,
+        second: 0,
+    })
 }

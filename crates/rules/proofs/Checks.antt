@@ -1,7 +1,6 @@
 -- The laws of a call's list of checks. Assumes nothing.
 --     checked_stop, checked_pass    the first check holds; it does not
 --     checked_first, checked_passed what a call does then
---     first_or_passed               one of the two is so
 --     checked_cases                 what holds of a refusal, and of the call where it passed, holds of what the call does
 --     accepted_does, accepted_passed    a call that is accepted has passed every check
 use Rattle.std.proofs.Common.{◌≡◌, ℕ, ◌<◌, Bool, true, false, ◌&&◌, ltb, List, [], ◌∷◌, refl, ◌∙◌, arith, ltb-true}
@@ -31,20 +30,10 @@ module _ (m : Record) (t : Tables) where
   checked_passed [] o p = checked_end o
   checked_passed (c ∷ cs) o p = checked_pass c cs o p.0 ∙ checked_passed cs o p.1
 
-pub first_or_passed {ℓ} : {P : Type ℓ} (cs : List Check) → ((n : ℕ) → First cs n → P) → (Passed cs → P) → P
-first_or_passed [] refused passed = passed tt
-first_or_passed (c ∷ cs) refused passed =
-    by_cases c.holds (λ e. refused c.number (here e)) (λ e. first_or_passed cs (λ n f. refused n (there e f)) (λ p. passed (e, p)))
-
 -- each check has a refusal's number
 abbrev pub numbered : List Check → Bool
 numbered [] = true
 numbered (c ∷ cs) = ltb 0 c.number && numbered cs
-
--- so the first that holds has one
-pub first_numbered : {cs : List Check} {n : ℕ} → numbered cs ≡ true → First cs n → 0 < n
-first_numbered z (here {c} {cs} e) = ltb-true 0 c.number (and_left (ltb 0 c.number) (numbered cs) z)
-first_numbered z (there {c} {cs} e f) = first_numbered (and_right (ltb 0 c.number) (numbered cs) z) f
 
 pub checked_cases :
     (P : Outcome → Type 0) (m : Record) (t : Tables) (cs : List Check) (o : Outcome) →

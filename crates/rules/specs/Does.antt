@@ -1,9 +1,14 @@
--- How the contracts of the calls' code name what a call does. A function is lent a record's areas beside its memory, and the tables as slices:
--- these terms and those of frames/specs/Lent are where the record and all tables stand together.
-use Rattle.std.specs.Prelude.{◌≡◌, ℕ, Bool, List, length, ◌==◌, if◌then◌else◌}
+-- How the contracts of the calls' code name what a call does. A function is lent a record's areas beside its memory, and the tables in the slices
+-- that it is lent: these terms and those of frames/specs/Lent are where the record and all tables stand together.
+use Rattle.std.specs.Prelude.{◌≡◌, ℕ, Bool, List, Result, length, ◌==◌, if◌then◌else◌}
 use Rattle.answer.specs.declared.Answer.{Answer}
+use Rattle.answer.specs.declared.Numbers.{Numbers}
+use Rattle.answer.specs.declared.refusal.Refusal.{Refusal}
+use Rattle.answer.specs.Answers.{answer_of}
+use Rattle.frames.specs.declared.LentTables.{LentTables}
 use Rattle.frames.specs.Tables.{Tables}
-use Rattle.frames.specs.Lent.{Slice, entering, leaving}
+use Rattle.frames.specs.Lent.{tables_in, SameSlices}
+use Rattle.rules.specs.declared.LentRecord.{LentRecord}
 use Rattle.rules.specs.declared.Memory.{Memory}
 use Rattle.rules.specs.declared.Record.{Record}
 use Rattle.rules.specs.Limits.{most_area_numbers}
@@ -13,19 +18,20 @@ use Rattle.rules.specs.Outcomes.{Outcome, outcome, refuse}
 abbrev pub record_with : Memory → List ℕ → Record
 record_with memory areas = record { memory = memory; areas = areas }
 
--- the record that a function is given as its memory and the areas lent
-abbrev pub given : Memory → Slice → Record
-given memory areas = record_with memory areas.entry.now
+-- the record that a function is lent
+abbrev pub record_in : LentRecord → Record
+record_in m = record_with m.memory m.areas.now
 
 -- a function that hands back an answer alone does what a call does: the record stays
-abbrev pub Answers : (Record → Tables → Outcome) → Memory → Slice → Answer → Slice → Slice → Slice → Slice → Type 0
-Answers call memory areas r marks words bitmap owners =
-    outcome (given memory areas) r (leaving marks words bitmap owners) ≡ call (given memory areas) (entering marks words bitmap owners)
+abbrev pub Answers : (Record → Tables → Outcome) → LentRecord → Result Numbers Refusal → LentTables → LentTables → Type 0
+Answers call m r before after =
+    SameSlices before after × (outcome (record_in m) (answer_of r) (tables_in after) ≡ call (record_in m) (tables_in before))
 
 -- a function that hands back a memory and an answer does what a call does: it leaves the areas' numbers of the record where they were lent
-abbrev pub Returns : (Record → Tables → Outcome) → Memory → Slice → Memory → Answer → Slice → Slice → Slice → Slice → Type 0
-Returns call memory areas after r marks words bitmap owners =
-    outcome (record_with after areas.exit.now) r (leaving marks words bitmap owners) ≡ call (given memory areas) (entering marks words bitmap owners)
+abbrev pub Returns : (Record → Tables → Outcome) → Memory → List ℕ → Memory → List ℕ → Answer → LentTables → LentTables → Type 0
+Returns call memory areas memory_after areas_after answer before after =
+    SameSlices before after ×
+    (outcome (record_with memory_after areas_after) answer (tables_in after) ≡ call (record_with memory areas) (tables_in before))
 
 -- the numbers lent are those of all areas
 abbrev pub has_all_areas : Record → Bool

@@ -3,10 +3,11 @@
 #![tactic(auto)]
 
 ghost use Rattle.std.specs.Prelude.{◌≡◌};
+ghost use Rattle.answer.specs.Answers.{answer_at};
 ghost use Rattle.rules.specs.Counters.{no_grants, after_grant, after_boot, since};
 ghost use Rattle.rules.specs.Record.{fresh_record};
 
-use answer::refusal;
+use answer::{Numbers, Refusal, Refused};
 use frames::{Area, Frame};
 
 // What a record says of memory, but for its areas' numbers.
@@ -23,11 +24,18 @@ pub struct Memory {
 }
 
 // The machine record, which each call takes and hands back, but for its counters: its memory by value, and the numbers of its areas lent, so that
-// no call but a boot copies them. They are one flat array: a slice of numbers is proved with no walk of the code, and a slice of structs is not.
+// no call but a boot copies them. They are one flat array, as a caller in C lends them.
 #[derive(Clone, Copy)]
 pub struct Record {
     pub memory: Memory,
     pub areas: [u64; Record::AREA_NUMBERS],
+}
+
+// A record whose areas are lent, for a call that looks at it alone.
+#[derive(Clone, Copy)]
+pub struct LentRecord<'a> {
+    pub memory: Memory,
+    pub areas: &'a [u64],
 }
 
 impl Record {
@@ -98,46 +106,51 @@ impl Counters {
         }
     }
 
-    // After a grant that was answered with this number, 0 among them.
-    pub fn after_grant(self, number: u64) -> Self
-        ensures { result ≡ after_grant number self }
+    // After a grant that was answered so.
+    #[tactic(auto, unfolding(crate::specs::Counters::after_grant))]
+    pub fn after_grant(self, answer: Result<Numbers, Refused>) -> Self
+        ensures { result ≡ after_grant (answer_at answer).refusal self }
     {
-        if number == refusal::NONE {
-            return Self {
-                granted: std::num::wrapping_add_u32(self.granted, 1),
+        match answer {
+            Ok(_) => Self {
+                granted: self.granted.wrapping_add(1),
                 refused: self.refused,
-            };
-        }
-        if number == refusal::WRONG_SHAPE {
-            return self;
-        }
-        Self {
-            granted: self.granted,
-            refused: std::num::wrapping_add_u32(self.refused, 1),
+            },
+            Err(
+                Refused {
+                    refusal: Refusal::WrongShape,
+                    place: _,
+                },
+            ) => self,
+            Err(_) => Self {
+                granted: self.granted,
+                refused: self.refused.wrapping_add(1),
+            },
         }
     }
 
-    // After a boot that was answered with this number.
-    pub fn after_boot(self, number: u64) -> Self
-        ensures { result ≡ after_boot number self }
+    // After a boot that was answered so.
+    pub fn after_boot(self, answer: Result<Numbers, Refused>) -> Self
+        ensures { result ≡ after_boot (answer_at answer).refusal self }
     {
-        if number == refusal::NONE {
-            return Counters::zero();
+        match answer {
+            Ok(_) => Counters::zero(),
+            Err(_) => self,
         }
-        self
     }
 }
 
 // How many calls were counted between an earlier reading of a counter and a later one, where they are fewer than 2^32 and no boot that was accepted
 // came between.
+#[tactic(auto, unfolding(crate::specs::Counters::since))]
 pub fn since(later: u32, earlier: u32) -> u32
     ensures { result ≡ since later earlier }
 {
-    std::num::wrapping_sub_u32(later, earlier)
+    later.wrapping_sub(earlier)
 }
 
 // What a declaration asks for: amounts in bytes, the order of the pages per bit (document 01's k), and whether the base is where the area
-// must begin.
+// must begin. The flag stands beside the base, and is no option of it, since both are numbers of the call: a fixed base of 0 is one too.
 #[derive(Clone, Copy)]
 pub struct Request {
     pub base: u64,

@@ -1,28 +1,33 @@
 -- The last frames before an end that an area holds, and a range of frames that are free and in no area. Assumes nothing.
---     held_start, held_stays, held_moves, held_end    a loop that has looked at the first k areas: what the next area's ends say
+--     held_start, held_stays, held_moves              a loop that has looked at the first k areas: what the next area's ends say
 --     held_lower                                      the same before a lower end
 --     used_past                                       a mark past the end is free
---     since_start, since_next                         a loop down over places that are not free
+--     used_here, used_none                            a loop up to the first place that is not free
+--     below_some, below_none                          a place below an end, or none
 --     scan_held, scan_free, scan_used                 a range that reaches into those frames; one that lies after them
 use Prim.Native.Nat.{ℕ, ◌+◌, ◌-◌, ◌≤◌, ◌<◌, min, max}
 use native.Mathlib.Nat.{le_refl, zero-add}
 use native.Mathlib.Omega.{arith}
-use mathlib.Core.Path.{◌≡◌, sym, ap, subst, ◌∙◌}
+use mathlib.Core.Path.{◌≡◌, refl, sym, ap, subst, ◌∙◌}
 use mathlib.Core.Bool.{Bool, true, false, not, ◌||◌}
 use mathlib.Core.List.{List}
 use lib.ListN.{length}
+use borrow.Author.Tests.{lt-ltb, le-ltb}
+use Rattle.std.specs.Prelude.{Option, Some, None}
 use Rattle.search.specs.Search.{lowest_from, some, every}
 use Rattle.search.proofs.Bools.{below_or_not, and_both, and_left_false, and_right_false, or_neither, or_left_true, or_right_true, not_flips}
 use Rattle.search.proofs.Lowest.{Least, lowest_least}
 use Rattle.search.proofs.Ranges.{some_none, some_next, every_miss, all_every}
 use Rattle.frames.specs.declared.Area.{Area}
 use Rattle.frames.specs.declared.Frame.{Frame}
-use Rattle.frames.specs.Units.{frame, most_number}
+use Rattle.frames.specs.declared.Place.{Place}
+use Rattle.frames.specs.Units.{frame, place, place_below, most_number}
 use Rattle.frames.specs.Marks.{has_kind, free}
 use Rattle.frames.specs.Scans.{marked, in_areas_at, is_free_ordinary}
 use Rattle.frames.specs.Areas.{holds_frame, end_of, area_in, in_areas}
 use Rattle.frames.proofs.AreaFacts.{holds_yes, holds_below, holds_above}
 use Rattle.frames.proofs.MarkFacts.{past_end}
+use Rattle.frames.proofs.ScanFacts.{Seeking, seek_hit, seek_skip, seek_end}
 use Rattle.setup.specs.declared.place.Held.{Held}
 use Rattle.setup.specs.Steps.Held.{HeldBelow, LastHeld, UsedSince, Scanned}
 
@@ -45,9 +50,6 @@ held_start {areas} =
       within = omega arith;
       below = record { some = λ h. absurd (omega arith); held = λ f u v. absurd (omega arith); clear = λ f u v. in_none areas (frame f) };
     }
-
-pub held_end : {areas : List ℕ} {k n end : ℕ} {h : Held} → LastHeld areas k end h → k ≡ n → LastHeld areas n end h
-held_end {areas} {k} {n} {end} {h} s same = subst (λ (x : ℕ). LastHeld areas x end h) same s
 
 pub held_lower : {areas : List ℕ} {n end : ℕ} {h : Held} (lower : ℕ) → HeldBelow areas n end h → lower ≤ end → HeldBelow areas n lower h
 held_lower lower b l = record { some = b.some; held = b.held; clear = λ f u v. b.clear f u (omega arith) }
@@ -88,16 +90,33 @@ module _ {areas : List ℕ} {k end : ℕ} {a : Area} (same : a ≡ area_in areas
 pub used_past : (marks : List ℕ) (k : ℕ) → length marks ≤ k → not (marked (has_kind free) marks k) ≡ false
 used_past marks k h = ap not (past_end (has_kind free) marks k h)
 
--- a loop that has gone down from `at` to i
-pub since_start : {marks : List ℕ} {at : ℕ} → UsedSince marks at at
-since_start {marks} {at} = record { low = le_refl at; used = λ q u v. absurd (omega arith) }
+-- a loop up to the first place that is not free
+module _ (marks : List ℕ) {from end i : ℕ} (s : Seeking (λ q. not (marked (has_kind free) marks q)) from end i) where
+  pub used_here : i < end → not (marked (has_kind free) marks i) ≡ true → Some (place i) ≡ place_below (lowest_from (λ q. not (marked (has_kind free) marks q)) from (end - from)) end
+  used_here l h = subst (λ (n : ℕ). Some (place i) ≡ place_below n end) (seek_hit s l h) (rw (lt-ltb i end l) refl)
 
-pub since_next : {marks : List ℕ} {at i : ℕ} → UsedSince marks at i → 0 < i → marked (has_kind free) marks (i - 1) ≡ false → UsedSince marks at (i - 1)
-since_next {marks} {at} {i} s some e =
-    record {
-      low = omega (arith, s.low);
-      used = λ q u v. below_or_not q i (λ w. let same : i - 1 ≡ q = omega arith in subst (λ (x : ℕ). marked (has_kind free) marks x ≡ false) same e) (λ w. s.used q w v);
-    }
+  pub used_none : min end (length marks) ≤ i → None ≡ place_below (lowest_from (λ q. not (marked (has_kind free) marks q)) from (end - from)) end
+  used_none past =
+      let none : (n : ℕ) → end ≤ n → n ≡ lowest_from (λ q. not (marked (has_kind free) marks q)) from (end - from) → None ≡ place_below (lowest_from (λ q. not (marked (has_kind free) marks q)) from (end - from)) end =
+      λ n l is. subst (λ (k : ℕ). None ≡ place_below k end) is (rw (le-ltb n end l) refl)
+      in
+      below_or_not i end
+      (λ l. none end (le_refl end) (seek_end (seek_skip s end (omega arith) (le_refl end) (λ k a b. used_past marks k (omega arith))) (le_refl end)))
+      (λ l. none i l (seek_end s l))
+
+number_in : Option Place → ℕ
+number_in (Some p) = p.0
+number_in None = 0
+
+-- a place below an end, or none
+pub below_some : {n end : ℕ} {p : Place} → Some p ≡ place_below n end → (p.0 ≡ n) × (n < end)
+unfolding number_in
+below_some {n} {end} {p} e =
+    below_or_not n end (λ l. (let z : Some p ≡ Some (place n) = e ∙ rw (lt-ltb n end l) refl in ap number_in z, l)) (λ l. absurd (let z : Some p ≡ None = e ∙ rw (le-ltb n end l) refl in cc))
+
+pub below_none : {n end : ℕ} → None ≡ place_below n end → end ≤ n
+below_none {n} {end} e =
+    below_or_not n end (λ l. absurd (let z : None ≡ Some (place n) = e ∙ rw (lt-ltb n end l) refl in cc)) (λ l. l)
 
 -- a range that begins no higher than a used place, and ends above the first of those in a row with it, has one of them
 over_used :

@@ -3,12 +3,14 @@
 #![tactic(auto)]
 
 ghost use Rattle.std.specs.Prelude.{◌≡◌, ◌≤◌, length};
-ghost use Rattle.frames.specs.Lent.{slice_of};
+ghost use Rattle.answer.specs.Answers.{answer_of, answer_at};
 ghost use Rattle.frames.specs.Areas.{word_count, first_word};
 ghost use Rattle.frames.specs.Tables.{fill};
-ghost use Rattle.rules.specs.Does.{given, Returns, with_all_areas};
+ghost use Rattle.rules.specs.declared.Memory.{Memory as RecordMemory};
+ghost use Rattle.rules.specs.Does.{Returns, with_all_areas};
 ghost use Rattle.rules.specs.Declare.{declare};
 ghost use Rattle.rules.specs.Boot.{boot};
+ghost use Rattle.setup.specs.Laid.{memory_after, numbers_in};
 
 mod amounts;
 mod place;
@@ -16,40 +18,28 @@ mod plan;
 mod start;
 mod units;
 
-use answer::{Answer, refusal};
-use frames::{Area, Frame, Place, fill_numbers, fill_places, fill_words, first_word};
-use place::Plan;
+use answer::{Numbers, Refusal, Refused};
+use frames::{Area, Frame, LentTables, fill, first_word};
 use plan::{plan_area, with_area};
-use rules::{Memory, Record, Request};
+use rules::{LentRecord, Memory, Record, Request};
 use shape::shape_right;
 use start::{is_bootable, plan_text};
 
-// What a declaration or a boot hands back. The areas' numbers of the record stand where they were lent.
+// What a declaration or a boot that is done hands back: the record's memory, and the two numbers that it answers. The areas' numbers of the record
+// stand where they were lent.
 #[derive(Clone, Copy)]
 pub struct Laid {
     pub memory: Memory,
-    pub answer: Answer,
-}
-
-// Numbers become those of a list that is as long.
-fn copy(to: &mut [u64], from: &[u64])
-    requires { length to.old ≡ length from.now }
-    ensures { to.new ≡ from.now }
-{
-    let mut i = 0;
-    while i < from.len() {
-        to[i] = from[i];
-        i += 1;
-    }
+    pub numbers: Numbers,
 }
 
 // The bitmap words of one more area become 0.
-fn clear_words(areas: &[u64], declared: u64, bitmap: &mut [u64], area: Area)
-    requires { first_word areas.now declared ≤ length bitmap.old }
-    ensures { bitmap.new ≡ fill bitmap.old (first_word areas.now declared) (word_count area) 0 }
+fn clear_words(lent: LentRecord, bitmap: &mut [u64], area: Area)
+    requires { first_word lent.areas.now lent.memory.declared ≤ length bitmap.old }
+    ensures { bitmap.new ≡ fill bitmap.old (first_word lent.entry.areas.now lent.entry.memory.declared) (word_count area) 0 }
 {
-    let from = first_word(areas, declared);
-    fill_numbers(bitmap, from as usize, area.words(), 0);
+    let from = first_word(lent.areas, lent.memory.declared);
+    fill(bitmap, from as usize, area.words(), 0);
 }
 
 // A new area, where the request says or at the highest place that it can have. Its bitmap words become 0. The numbers of all areas are to be
@@ -57,56 +47,44 @@ fn clear_words(areas: &[u64], declared: u64, bitmap: &mut [u64], area: Area)
 pub fn declare(
     memory: Memory,
     areas: &mut [u64],
-    marks: &[u32],
-    words: &[u64],
-    bitmap: &mut [u64],
-    owners: &[u32],
+    tables: &mut LentTables,
     request: Request,
-) -> Laid
-    ensures { Returns (with_all_areas (λ m. declare m request)) memory (slice_of areas) result.memory result.answer marks words (slice_of bitmap) owners }
+) -> Result<Laid, Refusal>
+    ensures { Returns (with_all_areas (λ m. declare m request)) memory areas.old (memory_after memory result) areas.new (answer_of (numbers_in result)) tables.old tables.new }
 {
     if areas.len() != Record::AREA_NUMBERS {
-        return Laid {
-            memory,
-            answer: Answer::refused(refusal::WRONG_SHAPE),
-        };
+        return Err(Refusal::WrongShape);
     }
-    if !shape_right(memory, areas, marks, words, bitmap, owners) {
-        return Laid {
-            memory,
-            answer: Answer::refused(refusal::WRONG_SHAPE),
-        };
+    let lent = LentRecord {
+        memory,
+        areas: &*areas,
+    };
+    if !shape_right(lent, tables) {
+        return Err(Refusal::WrongShape);
     }
-    let plan = plan_area(memory, areas, marks, bitmap, request);
-    match plan {
-        Plan::Not(number) => Laid {
-            memory,
-            answer: Answer::refused(number),
+    let marks = &mut *tables.marks;
+    let bitmap = &mut *tables.bitmap;
+    let area = plan_area(lent, marks, bitmap, request)?;
+    clear_words(lent, bitmap, area);
+    Ok(Laid {
+        memory: with_area(memory, areas, area),
+        numbers: Numbers {
+            first: area.base.0,
+            second: area.count,
         },
-        Plan::Made(area) => {
-            clear_words(areas, memory.declared, bitmap, area);
-            Laid {
-                memory: with_area(memory, areas, area),
-                answer: Answer::done(area.base.0, area.count),
-            }
-        }
-    }
+    })
 }
 
-// A new record, whatever was given. The regions are declared as if every frame were free: of the marks none is lent to the plan.
+// A new record, whatever was there. The regions are declared as if every frame were free: of the marks none is lent to the plan.
 pub fn boot(
-    memory: Memory,
     areas: &mut [u64],
-    marks: &mut [u32],
-    words: &mut [u64],
-    bitmap: &mut [u64],
-    owners: &mut [u32],
+    tables: &mut LentTables,
     base: Frame,
     frames: u64,
     block_order: u64,
     text: &[u8],
-) -> Laid
-    ensures { Returns (with_all_areas (λ m t. boot m base.0 frames block_order text.now t)) memory (slice_of areas) result.memory result.answer (slice_of marks) (slice_of words) (slice_of bitmap) (slice_of owners) }
+) -> Result<Laid, Refused>
+    ensures { (memory : RecordMemory) → Returns (with_all_areas (λ m. boot m base.0 frames block_order text.now)) memory areas.old (memory_after memory result) areas.new (answer_at (numbers_in result)) tables.old tables.new }
 {
     let bare = Memory {
         base,
@@ -114,24 +92,20 @@ pub fn boot(
         block_order,
         declared: 0,
     };
-    if !is_bootable(bare, areas.len(), marks.len(), words.len(), owners.len()) {
-        return Laid {
-            memory,
-            answer: Answer::refused_at(refusal::WRONG_SHAPE, 0),
-        };
+    if !is_bootable(bare, areas, tables) {
+        return Err(Refused::from(Refusal::WrongShape));
     }
     // The new record's areas are planned in numbers of their own: a refusal changes none that were lent.
     let mut planned = [0; Record::AREA_NUMBERS];
-    let laid = plan_text(bare, &mut planned, &marks[0..0], bitmap, text);
-    let answer = laid.answer;
-    if answer.refusal != 0 {
-        return Laid { memory, answer };
-    }
-    let room = bitmap.len() as u64;
-    fill_places(marks, Place(0), frames, 0);
-    fill_words(words, Place(0), frames, 0);
-    fill_numbers(bitmap, 0, room, 0);
-    fill_places(owners, Place(0), frames, 0);
-    copy(areas, &planned);
-    laid
+    let bitmap = &mut *tables.bitmap;
+    let memory = plan_text(bare, &mut planned, bitmap, text)?;
+    tables.marks.fill(0);
+    tables.words.fill(0);
+    bitmap.fill(0);
+    tables.owners.fill(0);
+    areas.copy_from_slice(&planned);
+    Ok(Laid {
+        memory,
+        numbers: Numbers::NONE,
+    })
 }

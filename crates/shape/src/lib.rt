@@ -2,18 +2,17 @@
 // record's areas are lent, and none is copied.
 #![tactic(auto)]
 
-ghost use Rattle.std.specs.Prelude.{◌+◌, ◌≤◌, min, max, ◌≡◌, true};
-ghost use Rattle.frames.specs.Tables.{tables};
+ghost use Rattle.std.specs.Prelude.{◌+◌, ◌^◌, ◌≤◌, ◌≡◌, true};
 ghost use Rattle.search.specs.Search.{every};
-ghost use Rattle.frames.specs.Areas.{area_in, end_of, are_disjoint};
-ghost use Rattle.frames.specs.Lent.{entering};
-ghost use Rattle.rules.specs.Limits.{most_end};
-ghost use Rattle.rules.specs.Shape.{memory_right, area_right, area_fits, shape_right};
-ghost use Rattle.rules.specs.Does.{given};
+ghost use Rattle.frames.specs.Areas.{is_multiple, area_in, end_of, are_disjoint};
+ghost use Rattle.frames.specs.Lent.{tables_in};
+ghost use Rattle.rules.specs.Limits.{most_end, most_block_order};
+ghost use Rattle.rules.specs.Shape.{memory_right, lengths_right, area_right, area_fits, shape_right};
+ghost use Rattle.rules.specs.Does.{record_in};
 ghost use Rattle.shape.specs.Steps.Rooms.{lies_in, IsFree, PartBeside, Surrounds, Tells};
 
-use frames::{Area, Frame, area_at, first_word};
-use rules::{Memory, Record};
+use frames::{Area, Frame, LentTables, area_at, first_word};
+use rules::{LentRecord, Memory, Record};
 
 // Room for areas: frames in a row that none passed so far holds, the first, and the one after the last.
 #[derive(Clone, Copy)]
@@ -22,31 +21,16 @@ struct Room {
     end: Frame,
 }
 
-// What is found of one area: whether it is apart from those before it and, if it is, a room that is free of it too.
-#[derive(Clone, Copy)]
-struct Judged {
-    apart: bool,
-    room: Room,
-}
-
 // The first frame, the number of frames and the block order keep to their limits.
 pub fn memory_right(base: Frame, frames: u64, block_order: u64) -> bool
     ensures { result ≡ memory_right base.0 frames block_order }
 {
     let first = base.0;
-    if first < Record::LEAST_BASE {
-        return false;
-    }
-    if frames < Record::LEAST_FRAMES {
-        return false;
-    }
-    if Record::MOST_FRAMES < frames {
-        return false;
-    }
-    if Record::MOST_END - frames < first {
-        return false;
-    }
-    block_order <= Record::MOST_BLOCK_ORDER
+    Record::LEAST_BASE <= first
+        && Record::LEAST_FRAMES <= frames
+        && frames <= Record::MOST_FRAMES
+        && first.saturating_add(frames) <= Record::MOST_END
+        && block_order <= Record::MOST_BLOCK_ORDER
 }
 
 // Two areas share no frame. An end may lie past the largest number, so none is computed.
@@ -65,33 +49,26 @@ fn apart(a: Area, c: Area) -> bool
     c.count <= a.base.0 - c.base.0
 }
 
+// A number of frames is whole blocks of an order.
+fn is_whole_blocks(frames: u64, order: u64) -> bool
+    requires { order ≤ most_block_order }
+    ensures { result ≡ is_multiple frames (2 ^ order) }
+{
+    frames & ((1u64 << order) - 1) == 0
+}
+
 // An area has a frame, no more than a block to a bit, begins and ends on a block, and lies in memory.
 fn area_right(memory: Memory, a: Area) -> bool
     requires { memory_right memory.base.0 memory.frames memory.block_order ≡ true }
     ensures { result ≡ area_right memory a }
 {
     let order = memory.block_order;
-    let block = 1u64 << order;
-    let end = memory.base.0 + memory.frames;
-    if a.count < 1 {
-        return false;
-    }
-    if order < a.order_per_bit {
-        return false;
-    }
-    if a.base.0 & (block - 1) != 0 {
-        return false;
-    }
-    if a.count & (block - 1) != 0 {
-        return false;
-    }
-    if a.base.0 < memory.base.0 {
-        return false;
-    }
-    if end < a.base.0 {
-        return false;
-    }
-    a.count <= end - a.base.0
+    1 <= a.count
+        && a.order_per_bit <= order
+        && is_whole_blocks(a.base.0, order)
+        && is_whole_blocks(a.count, order)
+        && memory.base.0 <= a.base.0
+        && a.base.0.saturating_add(a.count) <= memory.base.0 + memory.frames
 }
 
 // The area lies in the room.
@@ -99,30 +76,7 @@ fn lies_in(a: Area, room: Room) -> bool
     requires { end_of a ≤ most_end }
     ensures { result ≡ lies_in a room }
 {
-    if a.base.0 < room.from.0 {
-        return false;
-    }
-    a.base.0 + a.count <= room.end.0
-}
-
-// The lower of two frames.
-fn lower(a: Frame, b: Frame) -> Frame
-    ensures { result.0 ≡ min a.0 b.0 }
-{
-    if b.0 < a.0 {
-        return b;
-    }
-    a
-}
-
-// The higher of two frames.
-fn higher(a: Frame, b: Frame) -> Frame
-    ensures { result.0 ≡ max a.0 b.0 }
-{
-    if a.0 < b.0 {
-        return b;
-    }
-    a
+    room.from.0 <= a.base.0 && a.base.0 + a.count <= room.end.0
 }
 
 // The larger part that an area in a room leaves of it, below the area or above.
@@ -152,120 +106,95 @@ fn past_other(room: Room, a: Area, other: Area) -> Room
     if other.base.0 <= a.base.0 {
         let past = Frame(other.base.0 + other.count);
         return Room {
-            from: higher(from, past),
+            from: Frame(from.0.max(past.0)),
             end,
         };
     }
     Room {
         from,
-        end: lower(end, other.base),
+        end: Frame(end.0.min(other.base.0)),
     }
 }
 
-// Area i beside each of those before it: whether it is apart from them, and what lies around it then, from one of them to the next or
-// to an end of all frames.
-fn judge_around(areas: &[u64], i: usize, a: Area, all: Room) -> Judged
+// Area i beside each of those before it: where it is apart from them, what lies around it, from one of them to the next or to an end of all
+// frames.
+fn room_around(areas: &[u64], i: usize, a: Area, all: Room) -> Option<Room>
     requires { (a ≡ area_in areas.now i) × (1 ≤ a.count) × (lies_in a all ≡ true) }
     ensures { Surrounds areas.now i result }
 {
     let mut room = all;
-    let mut k = 0;
-    while k < i {
+    for k in 0..i {
         let other = area_at(areas, k);
         if !apart(other, a) {
-            return Judged { apart: false, room };
+            return None;
         }
         room = past_other(room, a, other);
-        k += 1;
     }
-    Judged { apart: true, room }
+    Some(room)
 }
 
-// Area i, where a room is free of those before it: if it lies there it is apart from them, at one look. Of the room where it lies the larger part
-// that it leaves is kept.
-fn judge(areas: &[u64], i: usize, a: Area, room: Room, all: Room) -> Judged
+// Area i, where a room is free of those before it: if it lies there it is apart from them, at one look. Where it is apart from them, of the room
+// where it lies the larger part that it leaves is kept.
+fn room_left(areas: &[u64], i: usize, a: Area, room: Room, all: Room) -> Option<Room>
     requires a_value { (a ≡ area_in areas.now i) × (end_of a ≤ most_end) }
     requires all_value { (lies_in a all ≡ true) × (1 ≤ a.count) }
     requires free { IsFree areas.now i room }
     ensures { Tells areas.now i result }
 {
     if lies_in(a, room) {
-        return Judged {
-            apart: true,
-            room: larger_part(a, room),
-        };
+        return Some(larger_part(a, room));
     }
-    let around = judge_around(areas, i, a, all);
-    if !around.apart {
-        return around;
-    }
-    let free = around.room;
-    Judged {
-        apart: true,
-        room: larger_part(a, free),
-    }
+    let around = room_around(areas, i, a, all)?;
+    Some(larger_part(a, around))
 }
 
 // Every declared area is right, and they are apart. Areas that follow one another upwards or downwards mostly lie in the room that is kept,
 // also with a few others before or among them.
-fn areas_fit(memory: Memory, areas: &[u64]) -> bool
-    requires { memory_right memory.base.0 memory.frames memory.block_order ≡ true }
-    ensures { result ≡ every (area_fits (given memory areas)) 0 memory.declared }
+fn areas_fit(lent: LentRecord) -> bool
+    requires { memory_right lent.memory.base.0 lent.memory.frames lent.memory.block_order ≡ true }
+    ensures { result ≡ every (area_fits (record_in lent.entry)) 0 lent.entry.memory.declared }
 {
-    let declared = memory.declared as usize;
-    let base = memory.base;
+    let memory = lent.memory;
     let all = Room {
-        from: base,
-        end: Frame(base.0 + memory.frames),
+        from: memory.base,
+        end: Frame(memory.base.0 + memory.frames),
     };
     let mut room = all;
-    let mut i = 0;
-    while i < declared {
-        let a = area_at(areas, i);
+    for i in 0..memory.declared as usize {
+        let a = area_at(lent.areas, i);
         if !area_right(memory, a) {
             return false;
         }
-        let judged = judge(areas, i, a, room, all);
-        if !judged.apart {
+        let Some(left) = room_left(lent.areas, i, a, room, all) else {
             return false;
-        }
-        let left = judged.room;
+        };
         room = left;
-        i += 1;
     }
     true
 }
 
-// Whether a record has the shape that every call but boot asks, with these tables.
-pub fn shape_right(
-    memory: Memory,
-    areas: &[u64],
-    marks: &[u32],
-    words: &[u64],
-    bitmap: &[u64],
-    owners: &[u32],
-) -> bool
-    ensures { result ≡ shape_right (given memory areas) (entering marks words bitmap owners) }
+// Marks, words and owners have an entry for each frame.
+pub fn lengths_right(frames: u64, tables: &LentTables) -> bool
+    ensures { result ≡ lengths_right frames (tables_in tables.now) }
 {
-    let frames = memory.frames;
-    let declared = memory.declared;
-    if !memory_right(memory.base, frames, memory.block_order) {
+    tables.marks.len() as u64 == frames
+        && tables.words.len() as u64 == frames
+        && tables.owners.len() as u64 == frames
+}
+
+// Whether a record has the shape that every call but boot asks, with these tables.
+pub fn shape_right(lent: LentRecord, tables: &LentTables) -> bool
+    ensures { result ≡ shape_right (record_in lent.entry) (tables_in tables.now) }
+{
+    let memory = lent.memory;
+    if !memory_right(memory.base, memory.frames, memory.block_order) {
         return false;
     }
-    if Record::MOST_AREAS < declared {
+    if Record::MOST_AREAS < memory.declared || !lengths_right(memory.frames, tables) {
         return false;
     }
-    if marks.len() as u64 != frames {
+    if !areas_fit(lent) {
         return false;
     }
-    if words.len() as u64 != frames {
-        return false;
-    }
-    if owners.len() as u64 != frames {
-        return false;
-    }
-    if !areas_fit(memory, areas) {
-        return false;
-    }
-    first_word(areas, declared) <= bitmap.len() as u64
+    first_word(lent.areas, memory.declared) <= tables.bitmap.len() as u64
 }

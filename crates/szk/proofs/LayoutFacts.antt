@@ -1,23 +1,17 @@
 -- The laws of the record's layout. Assumes nothing.
---     sets_over       numbers stored one after the other from the first on
 --     length_areas    a record that is read has all its areas' numbers
 --     areas_kept      a memory and counters written over numbers whose areas' are a record's already
 use Prim.Native.Nat.{ℕ, ◌≤◌}
-use native.Mathlib.Nat.{zero-add}
 use native.Mathlib.Omega.{arith}
 use mathlib.Core.Path.{◌≡◌, ap, ◌∙◌}
 use mathlib.Core.List.{List, ◌++◌}
 use lib.ListN.{length, take, drop, length-drop}
-use lib.Seq.{sets, sets-eq, drop_at, drop-drop, length-take-le}
+use lib.Seq.{drop_at, drop-drop, length-take-le}
 use Rattle.rules.specs.declared.Counters.{Counters}
 use Rattle.rules.specs.declared.Memory.{Memory}
 use Rattle.rules.specs.Limits.{most_area_numbers}
 use Rattle.rules.specs.Does.{record_with}
 use Rattle.szk.specs.Layout.{areas_start, record_length, record_from, own_numbers, numbers_of, over}
-
-pub sets_over : (new numbers : List ℕ) → length new ≤ length numbers → sets numbers 0 new ≡ over new numbers
-unfolding over
-sets_over new numbers h = sets-eq new numbers 0 (omega arith) ∙ ap (λ (n : ℕ). new ++ drop n numbers) (zero-add (length new))
 
 pub length_areas : (numbers : List ℕ) → record_length ≤ length numbers → length (record_from numbers).areas ≡ most_area_numbers
 length_areas numbers h = length-take-le most_area_numbers (drop areas_start numbers) (omega (arith, length-drop areas_start numbers))

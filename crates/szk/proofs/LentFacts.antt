@@ -10,6 +10,7 @@ use mathlib.Core.List.{List, ◌++◌}
 use lib.ListN.{length, take, drop}
 use borrow.Author.Tests.{lt-ltb, le-ltb, ltb-false, eq-eqb}
 use Rattle.search.proofs.Bools.{by_cases, clash, or_left, or_right}
+use Rattle.answer.specs.declared.Answer.{Answer}
 use Rattle.answer.specs.Answers.{refused}
 use Rattle.frames.specs.Tables.{Tables}
 use Rattle.rules.specs.declared.Call.{Call}
@@ -22,7 +23,6 @@ use Rattle.rules.specs.Counters.{counted}
 use Rattle.rules.specs.Calls.{perform}
 use Rattle.rules.specs.Does.{record_with, with_all_areas}
 use Rattle.rules.specs.Ledger.Roles.{role_of}
-use Rattle.machine.specs.declared.Returned.{Returned}
 use Rattle.machine.specs.Does.{buffer_after}
 use Rattle.setup.proofs.AllAreas.{asked}
 use Rattle.szk.specs.Layout.{areas_start, record_length, answer_length, record_from, counters_from, own_numbers, answer_numbers, over}
@@ -83,25 +83,25 @@ module _ {numbers answer after : List ℕ} {short : Bool} (j : Judged numbers an
 
   -- a call that is made: on the record and the counters that the numbers hold, whose areas' stay where they are; and what it returned is given back
   pub performed :
-      (call : Call) (bytes : List ℕ) (t : Tables) {t' : Tables} {areas' numbers' answer' : List ℕ} {memory : Memory} {c : Counters} {r : Returned} →
+      (call : Call) (bytes : List ℕ) (t : Tables) {t' : Tables} {areas' numbers' answer' : List ℕ} {memory : Memory} {c : Counters} {memory' : Memory} {c' : Counters} {given : Answer} →
       short ≡ false →
       memory ≡ (record_from numbers).memory →
       c ≡ counters_from numbers →
-      outcome (record_with r.machine.memory areas') r.answer t' ≡ with_all_areas (perform call bytes) (record_with memory (record_from numbers).areas) t →
-      r.machine.counters ≡ counted call r.answer.refusal c →
+      outcome (record_with memory' areas') given t' ≡ with_all_areas (perform call bytes) (record_with memory (record_from numbers).areas) t →
+      c' ≡ counted call given.refusal c →
       length areas' ≡ most_area_numbers →
-      numbers' ≡ over (own_numbers r.machine.memory r.machine.counters) (take areas_start numbers ++ (areas' ++ drop most_area_numbers (drop areas_start numbers))) →
-      answer' ≡ over (answer_numbers r.answer) after →
+      numbers' ≡ over (own_numbers memory' c') (take areas_start numbers ++ (areas' ++ drop most_area_numbers (drop areas_start numbers))) →
+      answer' ≡ over (answer_numbers given) after →
       handed numbers' t' answer' ≡ exported call bytes (handed numbers t answer)
   unfolding exported
-  performed call bytes t {t'} {areas'} {numbers'} {answer'} {memory} {c} {r} e loaded read called tallied long given_numbers given_answer =
+  performed call bytes t {t'} {areas'} {numbers'} {answer'} {memory} {c} {memory'} {c'} {given} e loaded read called tallied long given_numbers given_answer =
       let here = room e in
       let m : Record = record_from numbers in
       let a = le-ltb (length answer) answer_length here.answer_long in
       let n = le-ltb (length numbers) record_length here.record_long in
-      let kept = given_numbers ∙ areas_kept r.machine.memory r.machine.counters areas' numbers here.record_long long in
-      let counts = tallied ∙ ap (counted call r.answer.refusal) read in
-      let back : handed numbers' t' answer' ≡ given_back call (outcome (record_with r.machine.memory areas') r.answer t') (handed numbers t answer) =
+      let kept = given_numbers ∙ areas_kept memory' c' areas' numbers here.record_long long in
+      let counts = tallied ∙ ap (counted call given.refusal) read in
+      let back : handed numbers' t' answer' ≡ given_back call (outcome (record_with memory' areas') given t') (handed numbers t answer) =
       rw (kept, given_answer, here.kept, counts) refl in
       let made =
       called ∙

@@ -2,8 +2,9 @@
 use Rattle.std.specs.Prelude.{ℕ, ◌≡◌, Bool, ◌&&◌, ◌||◌, List, ltb, length, set, if◌then◌else◌}
 use Rattle.answer.specs.declared.Answer.{Answer}
 use Rattle.answer.specs.Answers.{refused}
-use Rattle.frames.specs.Tables.{Tables}
-use Rattle.frames.specs.Lent.{MutSlice, slice_of, entering, leaving}
+use Rattle.frames.specs.Tables.{Tables, tables}
+use Rattle.std.specs.Borrow.{MutBor}
+use denote.Triple.Both.{Both}
 use Rattle.rules.specs.declared.Call.{Call}
 use Rattle.rules.specs.Counters.{counted}
 use Rattle.rules.specs.Outcomes.{Outcome}
@@ -45,11 +46,15 @@ exported call bytes l =
     else if is_short l.numbers record_length then answered l (refused 1)
     else given_back call (perform call bytes (record_from l.numbers) l.tables) l
 
+-- a slice that is lent to be written: what it holds at entry and at exit
+abbrev pub MutSlice : Type 0
+MutSlice = Both (MutBor (List ℕ)) (MutBor (List ℕ))
+
 -- a function leaves what an exported call makes of the six slices lent
 abbrev pub Exports : Call → List ℕ → MutSlice → MutSlice → MutSlice → MutSlice → MutSlice → MutSlice → Type 0
 Exports call bytes numbers marks words bitmap owners answer =
-    handed numbers.exit.now (leaving (slice_of marks) (slice_of words) (slice_of bitmap) (slice_of owners)) answer.exit.now ≡
-    exported call bytes (handed numbers.entry.now (entering (slice_of marks) (slice_of words) (slice_of bitmap) (slice_of owners)) answer.entry.now)
+    handed numbers.exit.now (tables marks.exit.now words.exit.now bitmap.exit.now owners.exit.now) answer.exit.now ≡
+    exported call bytes (handed numbers.entry.now (tables marks.entry.now words.entry.now bitmap.entry.now owners.entry.now) answer.entry.now)
 
 -- the buffer after an exported call: as the call leaves its bytes, but as it was where a report's answer or record is too short
 abbrev pub buffer_left : Call → List ℕ → Handed → List ℕ

@@ -1,5 +1,6 @@
 // The exported functions, one for each call: each makes its call of its numbers and hands it to `exchange::call`. Frames are physical frame
-// numbers. `szk_since` is no call: it is lent nothing.
+// numbers. `szk_since` is no call: it is lent nothing. They are alike because the C interface has one function for each call, each with the slices
+// and the numbers of its own.
 ghost use Rattle.std.specs.Prelude.{not, ◌≡◌, [], eqb};
 ghost use Rattle.frames.specs.Tables.{tables};
 ghost use Rattle.frames.specs.Units.{frame as frame_of};
@@ -8,7 +9,7 @@ ghost use Rattle.rules.specs.Counters.{since};
 ghost use Rattle.szk.specs.Exported.{handed, Exports, buffer_left};
 
 use crate::exchange;
-use frames::Frame;
+use frames::{Frame, LentTables};
 use rules::{Call, Request};
 
 // A movable page is put.
@@ -25,17 +26,13 @@ pub extern "C" fn szk_put_movable(
     ensures { Exports (Call.PutMovable name) [] numbers marks words bitmap owners answer }
 {
     let call = Call::PutMovable { name };
-    exchange::call(
-        numbers,
+    let mut tables = LentTables {
         marks,
         words,
         bitmap,
         owners,
-        answer,
-        call,
-        b"",
-        &mut [],
-    );
+    };
+    exchange::call(numbers, &mut tables, answer, call, b"", &mut []);
 }
 
 // A fixed page is put, which no area takes.
@@ -52,17 +49,13 @@ pub extern "C" fn szk_put_fixed(
     ensures { Exports (Call.PutFixed name) [] numbers marks words bitmap owners answer }
 {
     let call = Call::PutFixed { name };
-    exchange::call(
-        numbers,
+    let mut tables = LentTables {
         marks,
         words,
         bitmap,
         owners,
-        answer,
-        call,
-        b"",
-        &mut [],
-    );
+    };
+    exchange::call(numbers, &mut tables, answer, call, b"", &mut []);
 }
 
 // A page is gone from its frame, unless it is pinned.
@@ -79,17 +72,13 @@ pub extern "C" fn szk_drop(
     ensures { Exports (Call.Drop name) [] numbers marks words bitmap owners answer }
 {
     let call = Call::Drop { name };
-    exchange::call(
-        numbers,
+    let mut tables = LentTables {
         marks,
         words,
         bitmap,
         owners,
-        answer,
-        call,
-        b"",
-        &mut [],
-    );
+    };
+    exchange::call(numbers, &mut tables, answer, call, b"", &mut []);
 }
 
 // A movable page is pinned.
@@ -106,17 +95,13 @@ pub extern "C" fn szk_pin(
     ensures { Exports (Call.Pin name) [] numbers marks words bitmap owners answer }
 {
     let call = Call::Pin { name };
-    exchange::call(
-        numbers,
+    let mut tables = LentTables {
         marks,
         words,
         bitmap,
         owners,
-        answer,
-        call,
-        b"",
-        &mut [],
-    );
+    };
+    exchange::call(numbers, &mut tables, answer, call, b"", &mut []);
 }
 
 // A pinned page is movable again.
@@ -133,17 +118,13 @@ pub extern "C" fn szk_unpin(
     ensures { Exports (Call.Unpin name) [] numbers marks words bitmap owners answer }
 {
     let call = Call::Unpin { name };
-    exchange::call(
-        numbers,
+    let mut tables = LentTables {
         marks,
         words,
         bitmap,
         owners,
-        answer,
-        call,
-        b"",
-        &mut [],
-    );
+    };
+    exchange::call(numbers, &mut tables, answer, call, b"", &mut []);
 }
 
 // The word becomes the page's, unless it is pinned.
@@ -161,17 +142,13 @@ pub extern "C" fn szk_store(
     ensures { Exports (Call.Store name word) [] numbers marks words bitmap owners answer }
 {
     let call = Call::Store { name, word };
-    exchange::call(
-        numbers,
+    let mut tables = LentTables {
         marks,
         words,
         bitmap,
         owners,
-        answer,
-        call,
-        b"",
-        &mut [],
-    );
+    };
+    exchange::call(numbers, &mut tables, answer, call, b"", &mut []);
 }
 
 // Answers the page's frame and its word.
@@ -188,17 +165,13 @@ pub extern "C" fn szk_read(
     ensures { Exports (Call.Read name) [] numbers marks words bitmap owners answer }
 {
     let call = Call::Read { name };
-    exchange::call(
-        numbers,
+    let mut tables = LentTables {
         marks,
         words,
         bitmap,
         owners,
-        answer,
-        call,
-        b"",
-        &mut [],
-    );
+    };
+    exchange::call(numbers, &mut tables, answer, call, b"", &mut []);
 }
 
 // A run of frames of an area is granted to a device. Answers its first frame, and how many pages moved out of it.
@@ -223,17 +196,13 @@ pub extern "C" fn szk_grant(
         align,
         device,
     };
-    exchange::call(
-        numbers,
+    let mut tables = LentTables {
         marks,
         words,
         bitmap,
         owners,
-        answer,
-        call,
-        b"",
-        &mut [],
-    );
+    };
+    exchange::call(numbers, &mut tables, answer, call, b"", &mut []);
 }
 
 // A grant ends, by its owner, and its frames are free.
@@ -259,17 +228,13 @@ pub extern "C" fn szk_release(
         count,
         device,
     };
-    exchange::call(
-        numbers,
+    let mut tables = LentTables {
         marks,
         words,
         bitmap,
         owners,
-        answer,
-        call,
-        b"",
-        &mut [],
-    );
+    };
+    exchange::call(numbers, &mut tables, answer, call, b"", &mut []);
 }
 
 // A device stores a word in a frame that it owns.
@@ -293,17 +258,13 @@ pub extern "C" fn szk_device_store(
         word,
         device,
     };
-    exchange::call(
-        numbers,
+    let mut tables = LentTables {
         marks,
         words,
         bitmap,
         owners,
-        answer,
-        call,
-        b"",
-        &mut [],
-    );
+    };
+    exchange::call(numbers, &mut tables, answer, call, b"", &mut []);
 }
 
 // A device reads a frame that it owns. Answers its word.
@@ -322,17 +283,13 @@ pub extern "C" fn szk_device_read(
 {
     let frame = Frame(frame);
     let call = Call::DeviceRead { frame, device };
-    exchange::call(
-        numbers,
+    let mut tables = LentTables {
         marks,
         words,
         bitmap,
         owners,
-        answer,
-        call,
-        b"",
-        &mut [],
-    );
+    };
+    exchange::call(numbers, &mut tables, answer, call, b"", &mut []);
 }
 
 // An area is declared, by amounts in bytes. A `fixed` of 0 is no, any other number is yes. Answers its first frame and its count.
@@ -362,17 +319,13 @@ pub extern "C" fn szk_declare(
         fixed: fixed != 0,
     };
     let call = Call::Declare { request };
-    exchange::call(
-        numbers,
+    let mut tables = LentTables {
         marks,
         words,
         bitmap,
         owners,
-        answer,
-        call,
-        b"",
-        &mut [],
-    );
+    };
+    exchange::call(numbers, &mut tables, answer, call, b"", &mut []);
 }
 
 // A machine starts, with the areas of a regions text. The record lent is ignored, but for its length.
@@ -397,17 +350,13 @@ pub extern "C" fn szk_boot(
         frames,
         block_order,
     };
-    exchange::call(
-        numbers,
+    let mut tables = LentTables {
         marks,
         words,
         bitmap,
         owners,
-        answer,
-        call,
-        text,
-        &mut [],
-    );
+    };
+    exchange::call(numbers, &mut tables, answer, call, text, &mut []);
 }
 
 // The lines of the memory report, at the front of a buffer. Answers their length.
@@ -424,17 +373,13 @@ pub extern "C" fn szk_report(
     ensures exports { Exports Call.Report buffer.old numbers marks words bitmap owners answer }
     ensures buffer_after { buffer.new ≡ buffer_left Call.Report buffer.old (handed numbers.old (tables marks.old words.old bitmap.old owners.old) answer.old) }
 {
-    exchange::call(
-        numbers,
+    let mut tables = LentTables {
         marks,
         words,
         bitmap,
         owners,
-        answer,
-        Call::Report,
-        b"",
-        buffer,
-    );
+    };
+    exchange::call(numbers, &mut tables, answer, Call::Report, b"", buffer);
 }
 
 // How many calls were counted between an earlier reading of a counter and a later one, where they are fewer than 2^32 and no boot that was accepted

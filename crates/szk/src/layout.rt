@@ -1,9 +1,10 @@
 // The machine record and the answer as the numbers that a caller lends: the record's own five are read from there and written back, and those of
 // its areas stay where they are. Both counters are one number, the granted in its low 32 bits: so every number there is two counters.
 ghost use Rattle.std.specs.Prelude.{◌≡◌, ◌≤◌, length, set};
+ghost use Rattle.answer.specs.Answers.{number_of};
 ghost use Rattle.szk.specs.Layout.{record_length, answer_length, record_from, counters_in, counters_from, own_numbers, answer_numbers, over};
 
-use answer::Answer;
+use answer::{Answer, Refusal};
 use frames::Frame;
 use rules::{Counters, Memory, Record};
 
@@ -51,33 +52,35 @@ pub fn load_counters(numbers: &[u64]) -> Counters
 }
 
 // A memory and counters are written over the first numbers.
+#[tactic(auto, unfolding(crate::specs::Layout::over))]
 pub fn store(numbers: &mut [u64], memory: Memory, counters: Counters)
     requires { record_length ≤ length numbers.old }
     ensures { numbers.new ≡ over (own_numbers memory counters) numbers.old }
 {
-    numbers[0] = memory.base.0;
-    numbers[1] = memory.frames;
-    numbers[2] = memory.block_order;
-    numbers[3] = memory.declared;
-    numbers[4] = counters.granted as u64 + ONE_REFUSED * counters.refused as u64;
+    let both = counters.granted as u64 + ONE_REFUSED * counters.refused as u64;
+    numbers[..AREAS_START].copy_from_slice(&[
+        memory.base.0,
+        memory.frames,
+        memory.block_order,
+        memory.declared,
+        both,
+    ]);
 }
 
 // An answer is written over the first numbers.
+#[tactic(auto, unfolding(crate::specs::Layout::over))]
 pub fn store_answer(numbers: &mut [u64], a: Answer)
     requires { answer_length ≤ length numbers.old }
     ensures { numbers.new ≡ over (answer_numbers a) numbers.old }
 {
-    numbers[0] = a.refusal;
-    numbers[1] = a.first;
-    numbers[2] = a.second;
+    numbers[..ANSWER].copy_from_slice(&[a.refusal, a.first, a.second]);
 }
 
 // A refusal's number alone is written, for an answer that has no room for three. A list of no numbers can take nothing.
-pub fn store_refusal(numbers: &mut [u64], number: u64)
-    ensures { numbers.new ≡ set numbers.old 0 number }
+pub fn store_refusal(numbers: &mut [u64], refusal: Refusal)
+    ensures { numbers.new ≡ set numbers.old 0 (number_of refusal) }
 {
-    if numbers.len() == 0 {
-        return;
+    if let Some(number) = numbers.first_mut() {
+        *number = u64::from(refusal);
     }
-    numbers[0] = number;
 }

@@ -1,20 +1,21 @@
 -- Texts stored in a buffer one after the other, and what is appended. Assumes nothing.
 --     sets_then, set_after, set_before    a text after a text; a byte after a text; a byte before a text
---     copy_turn                           a turn of a copy
+--     copied                              a part that a text is copied into
 --     room_yes, room_no                   what the test for room tells
 --     appended, not_appended              a text that has room is stored; one that has none is not
 --     appended_then                       a text appended after a text is the two as one text
 --     appended_length                     the buffer keeps its length
 use Prim.Native.Nat.{ℕ, suc, ◌+◌, ◌≤◌, ◌<◌}
-use native.Mathlib.Numerals.{add-one}
 use native.Mathlib.Omega.{arith}
 use mathlib.Core.Path.{◌≡◌, refl, sym, ap, ◌∙◌}
-use mathlib.Core.Bool.{Bool, true, false, not}
+use mathlib.Core.Bool.{Bool, true, false}
 use mathlib.Core.List.{List, [], ◌∷◌, ◌++◌}
-use lib.ListN.{length, get_or, take, set, length-append}
-use lib.Seq.{sets, length-sets, sets-eq, set_comm, take-suc, length-take-le}
+use lib.ListN.{length, set, length-append}
+use lib.Seq.{sets, length-sets, sets-eq, set_comm, take_all}
+use borrow.Rule.Slice.PartMut.{put_mid}
+use Rattle.std.proofs.lemmas.Slice.{put_mid-paste}
 use lib.Dec.{leb}
-use borrow.Author.Tests.{le-leb, lt-leb, leb-true, leb-false, not-true, not-false}
+use borrow.Author.Tests.{le-leb, lt-leb, leb-true, leb-false}
 use Rattle.search.proofs.Bools.{below_or_not}
 use Rattle.text.specs.Writing.{has_room, written, Appended}
 
@@ -31,20 +32,19 @@ set_before l i (y ∷ a) x k h =
     set_before (set l i y) (suc i) a x k (omega arith)
     ∙ ap (λ (m : List ℕ). sets m (suc i) a) (set_comm l i k y x (λ e. omega arith))
 
--- a turn of a copy: one byte more
-pub copy_turn :
-    (l : List ℕ) (i : ℕ) (text : List ℕ) (k : ℕ) → k < length text → set (sets l i (take k text)) (i + k) (get_or text k 0) ≡ sets l i (take (k + 1) text)
-copy_turn l i text k h =
-    set_after l i (take k text) (get_or text k 0) (i + k) (ap (λ (n : ℕ). i + n) (sym (length-take-le k text (omega arith))))
-    ∙ ap (sets l i) (sym (ap (λ (n : ℕ). take n text) (add-one k) ∙ take-suc text k 0 h))
+-- a part of a buffer that a text is copied into
+pub copied : (l : List ℕ) (i k : ℕ) (text part : List ℕ) → part ≡ text → k ≡ length text → i + length text ≤ length l → put_mid i k l part ≡ sets l i text
+copied l i k text part e size h =
+    put_mid-paste i k l part text (length text) e (sym size) refl
+    ∙ rw (take_all (length text) text (omega arith)) (sym (sets-eq text l i h))
 
--- what a test `!has_room(..)` tells where it fails, and where it holds
+-- what the test for room tells where it holds, and where it fails
 module _ {r : Bool} (at size long : ℕ) (test : r ≡ leb (at + size) long) where
-  pub room_yes : not r ≡ false → at + size ≤ long
-  room_yes h = leb-true (at + size) long (sym test ∙ not-false r h)
+  pub room_yes : r ≡ true → at + size ≤ long
+  room_yes h = leb-true (at + size) long (sym test ∙ h)
 
-  pub room_no : not r ≡ true → long < at + size
-  room_no h = leb-false (at + size) long (sym test ∙ not-true r h)
+  pub room_no : r ≡ false → long < at + size
+  room_no h = leb-false (at + size) long (sym test ∙ h)
 
 module _ (out : List ℕ) (at : ℕ) (text : List ℕ) where
   room : at + length text ≤ length out → has_room out at text ≡ true

@@ -2,14 +2,14 @@
 --     cap_low, cap_high, cap_most    the two cases, and the bound
 --     cap_held                       what is held is held as it is
 --     cap_scaled                     a product's value goes by the values held
---     scaled_high, scaled_low        the test before a multiplication
+--     cap_saturated                  a product that saturates goes by the product
 --     value_cap                      the value of digits goes by the value held of those before them
 --     value_next, value_end          a loop over digits: one more digit; none is left
-use Prim.Native.Nat.{ℕ, zero, suc, ◌+◌, ◌-◌, ◌*◌, ◌/◌, ◌≤◌, ◌<◌}
-use native.Mathlib.Nat.{le-mul_of_pos_right, div-lt_iff_lt-mul}
+use Prim.Native.Nat.{ℕ, zero, suc, ◌+◌, ◌-◌, ◌*◌, ◌^◌, ◌≤◌, ◌<◌, min}
+use native.Mathlib.Nat.{le-mul_of_pos_right}
 use native.Mathlib.Numerals.{add-one}
 use native.Mathlib.Omega.{arith}
-use mathlib.Core.Path.{◌≡◌, refl, sym, ◌∙◌}
+use mathlib.Core.Path.{◌≡◌, refl, sym, ap, ◌∙◌}
 use mathlib.Core.List.{List}
 use borrow.Author.Tests.{lt-ltb, le-ltb}
 use Rattle.search.proofs.Bools.{below_or_not}
@@ -42,11 +42,9 @@ cap_scaled v m p =
     (both_high ((most_bytes + 1) * m) (v * m) (omega (arith, le-mul_of_pos_right (most_bytes + 1) p)) (omega (arith, le-mul_of_pos_right v p))))
     (λ h. rw (cap_low v h))
 
-pub scaled_high : (v m : ℕ) → 0 < m → most_bytes / m < v → most_bytes < v * m
-scaled_high v m p h = (div-lt_iff_lt-mul p).0 h
-
-pub scaled_low : (v m : ℕ) → 0 < m → v ≤ most_bytes / m → v * m ≤ most_bytes
-scaled_low v m p h = below_or_not most_bytes (v * m) (λ l. absurd (omega (arith, (div-lt_iff_lt-mul p).1 l))) (λ l. l)
+-- a number that the machine holds as the most it can is above 2^48
+pub cap_saturated : (v : ℕ) → cap (min v (2 ^ 64 - 1)) ≡ cap v
+cap_saturated v = below_or_not most_bytes v (λ h. both_high (min v (2 ^ 64 - 1)) v (omega arith) h) (λ h. ap cap (omega arith))
 
 module _ (base : ℕ) (p : 0 < base) (s : List ℕ) where
   value_none : (at v : ℕ) → digits_value base s at zero v ≡ v

@@ -1,23 +1,19 @@
 -- Laws of bytes and their classes. Assumes nothing.
---     between_low             a byte that is between two others is at least the lower
 --     digit_most              a digit's value is at most 16
 --     unit_some, unit_inside  a unit is at least 1, and is 1 past the end of the text
 use Prim.Native.Nat.{ℕ, ◌≤◌, ◌<◌}
 use native.Mathlib.Omega.{arith}
-use mathlib.Core.Path.{◌≡◌, refl, sym, ap, ◌∙◌}
-use mathlib.Core.Bool.{Bool, true, ◌||◌}
+use mathlib.Core.Path.{◌≡◌, refl, ap, ◌∙◌}
+use mathlib.Core.Bool.{true, ◌||◌}
 use mathlib.Core.List.{List}
 use lib.Dec.{leb, eqb}
 use lib.ListN.{length, get_or-eq_default}
 use borrow.Author.Tests.{leb-true}
-use Rattle.search.proofs.Bools.{by_cases, below_or_not, and_left, and_right}
+use Rattle.search.proofs.Bools.{by_cases, below_or_not, and_right}
 use Rattle.text.specs.Bytes.{byte_at, is_between, digit_of, unit_of}
 
 at_most : (low top c : ℕ) → is_between low top c ≡ true → c ≤ top
 at_most low top c e = leb-true c top (and_right (leb low c) (leb c top) e)
-
-pub between_low : (low high c : ℕ) {b : Bool} → b ≡ is_between low high c → b ≡ true → low ≤ c
-between_low low high c e t = leb-true low c (and_left (leb low c) (leb c high) (sym e ∙ t))
 
 pub digit_most : (c : ℕ) → digit_of c ≤ 16
 unfolding digit_of

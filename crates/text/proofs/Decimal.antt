@@ -5,9 +5,9 @@
 --     decimal_digits    each byte is a digit
 --     counted_digits    the last digits of a number, as many as were counted, are all of them: a loop from the last digit back writes them
 --     last_length       there are as many last digits as were asked for
---     Counting          what a loop knows that divides by ten and counts
-use Prim.Native.Nat.{ℕ, zero, suc, ◌+◌, ◌-◌, ◌*◌, ◌/◌, ◌%◌, ◌^◌, ◌≤◌, ◌<◌}
-use native.Mathlib.Nat.{add-zero, div-one, div-lt_iff_lt-mul, le-div_iff_mul-le, div-div-eq-div-mul, mod-lt, mod-eq_of_lt}
+--     counted           how many digits a number has, from the power of ten at which it stands
+use Prim.Native.Nat.{ℕ, zero, suc, ◌+◌, ◌-◌, ◌*◌, ◌/◌, ◌%◌, ◌^◌, ◌≤◌, ◌<◌, max}
+use native.Mathlib.Nat.{div-lt_iff_lt-mul, le-div_iff_mul-le, mod-lt, mod-eq_of_lt}
 use native.Mathlib.Omega.{arith}
 use mathlib.Core.Path.{◌≡◌, refl, sym, ap, subst, ◌∙◌}
 use mathlib.Core.List.{List, [], ◌∷◌, ◌++◌}
@@ -150,43 +150,22 @@ pub counted_digits : (n count : ℕ) → DigitsCounted n count → last_digits c
 counted_digits n count c = rw (c.all, decimal_is) (sym (exactly 20 n))
 
 -- ---- counting them
--- `count` digits are counted, and `rest` is what is left: one digit of it is counted already
-pub record Counting (value count rest : ℕ) : Type 0 where
-  pub low : 1 ≤ count
-  pub high : count ≤ 20
-  pub below : rest < 10 ^ suc (20 - count)
-  pub same : length (decimal value) + 1 ≡ count + length (decimal_up_to (suc (20 - count)) rest)
-
-pub count_start : (value : ℕ) → value < 2 ^ 64 → Counting value 1 value
-count_start value h =
-    record { low = omega arith; high = omega arith; below = omega arith; same = rw decimal_is (omega arith) }
-
-pub count_turn : (value count rest : ℕ) → Counting value count rest → 9 < rest → Counting value (count + 1) (rest / 10)
-count_turn value count rest c h =
-    let f = 20 - count in
-    let left : 0 < f = some_left f rest h c.below in
-    let next : suc (20 - (count + 1)) ≡ f = omega arith in
-    record {
-      low = omega arith;
-      high = omega arith;
-      below = rw next (fewer f rest c.below);
-      same =
-          rw next
-          (omega (arith, c.same, ap length (digits_more f rest h), length-append (decimal_up_to f (rest / 10)) ((48 + rest % 10) ∷ [])));
-    }
-
--- k digits more
-pub count_turns :
-    (value count rest : ℕ) → Counting value count rest → (k : ℕ) → 10 ^ k ≤ rest → Counting value (count + k) (rest / 10 ^ k)
-count_turns value count rest c zero h = subst (λ (n : ℕ). Counting value n (rest / 1)) (sym (add-zero count)) (subst (Counting value count) (sym (div-one rest)) c)
-count_turns value count rest c (suc k) h =
-    let power : 10 * 10 ^ k ≤ rest = omega (arith, ten_more k) in
+long : (k f n : ℕ) → k < f → (0 < k → 10 ^ k ≤ n) → n < 10 ^ suc k → length (decimal_up_to f n) ≡ k + 1
+long k zero n few low high = absurd (omega (arith, few))
+long zero (suc f) n few low high = rw (digits_one f n (omega arith)) (omega arith)
+long (suc k) (suc f) n few low high =
+    let power : 10 * 10 ^ k ≤ n = omega (arith, ten_more k, low (omega arith)) in
     let some : 0 < 10 ^ k = ten_pos k in
-    let less : 10 ^ k ≤ rest = omega arith in
-    let more : 10 ≤ rest / 10 ^ k = (le-div_iff_mul-le {k = 10 ^ k} {x = 10} {y = rest} some).1 power in
-    let place : count + k + 1 ≡ count + suc k = omega arith in
-    let left : rest / 10 ^ k / 10 ≡ rest / 10 ^ suc k = div-div-eq-div-mul rest (10 ^ k) 10 ∙ ap (λ (n : ℕ). rest / n) (sym (ten_more k)) in
-    rw (place, left) at (count_turn value (count + k) (rest / 10 ^ k) (count_turns value count rest c k less) (omega arith))
+    let less : 10 ^ k ≤ n / 10 = (le-div_iff_mul-le {k = 10} {x = 10 ^ k} {y = n} (omega arith)).1 (omega (arith, power)) in
+    let rest : length (decimal_up_to f (n / 10)) ≡ k + 1 = long k f (n / 10) (omega arith) (λ _. less) (fewer (suc k) n high) in
+    rw (digits_more f n (omega (arith, power, some))) (simp length-append (omega (arith, rest)))
 
-pub count_end : (value count rest : ℕ) → Counting value count rest → rest ≤ 9 → count ≡ length (decimal value)
-count_end value count rest c h = omega (arith, c.same, ap length (digits_one (20 - count) rest (omega arith)))
+-- the power of ten at which a number stands, or at which 1 does where it is 0, tells how many digits it has
+pub counted : (n k : ℕ) → 10 ^ k ≤ max n 1 → max n 1 < 10 * 10 ^ k → k < 20 → DigitsCounted n (k + 1)
+counted n k low high few =
+    let enough : 0 < k → 10 ^ k ≤ n = λ h.
+    let one : k ≡ suc (k - 1) = omega arith in
+    let ten : 10 ^ k ≡ 10 ^ (k - 1) * 10 = ap (λ (j : ℕ). 10 ^ j) one ∙ ten_more (k - 1) in
+    omega (arith, ten, ten_pos (k - 1), low) in
+    let below : n < 10 ^ suc k = omega (arith, ten_more k, high) in
+    record { all = sym (rw decimal_is (long k 20 n few enough below)); most = omega arith }

@@ -1,10 +1,10 @@
 -- A loop that writes the last digits of a number from the last one back. Assumes nothing.
 --     Filled        the last digits stand in the buffer, and `rest` is the number without them
---     fill_start, fill_turn, fill_end    before the loop; one digit more; all of them
+--     fill_turn     one digit more
 use Prim.Native.Nat.{ℕ, suc, ◌+◌, ◌-◌, ◌/◌, ◌%◌, ◌<◌}
 use native.Mathlib.Omega.{arith}
-use mathlib.Core.Path.{◌≡◌, refl, sym, ap, ◌∙◌}
-use mathlib.Core.List.{List, [], ◌∷◌, ◌++◌, append-nil}
+use mathlib.Core.Path.{◌≡◌, sym, ap, ◌∙◌}
+use mathlib.Core.List.{List, ◌∷◌, ◌++◌}
 use lib.ListN.{length, set, length-set}
 use lib.Seq.{sets, append_snoc}
 use Rattle.text.specs.Writing.{last_digits}
@@ -15,9 +15,6 @@ pub record Filled (out₀ : List ℕ) (at value count : ℕ) (out : List ℕ) (i
   pub split : last_digits i rest ++ tail ≡ last_digits count value
   pub bytes : out ≡ sets out₀ (at + i) tail
   pub long : length out ≡ length out₀
-
-pub fill_start : (out : List ℕ) (at value count : ℕ) → Filled out at value count out count value
-fill_start out at value count = record { tail = []; split = append-nil (last_digits count value); bytes = refl; long = refl }
 
 module _ (out₀ : List ℕ) (at value count : ℕ) (out : List ℕ) (i rest : ℕ) (f : Filled out₀ at value count out i rest) where
   pub fill_turn : 0 < i → Filled out₀ at value count (set out (at + (i - 1)) (48 + rest % 10)) (i - 1) (rest / 10)
@@ -36,8 +33,3 @@ module _ (out₀ : List ℕ) (at value count : ℕ) (out : List ℕ) (i rest : �
             ∙ set_before out₀ (suc k) f.tail (48 + rest % 10) k (omega arith);
         long = length-set out k (48 + rest % 10) ∙ f.long;
       }
-
-  pub fill_end : i ≡ 0 → out ≡ sets out₀ at (last_digits count value)
-  fill_end none =
-      f.bytes ∙ ap (λ (n : ℕ). sets out₀ n f.tail) (omega (arith, none))
-      ∙ ap (sets out₀ at) (ap (λ (n : ℕ). last_digits n rest ++ f.tail) (sym none) ∙ f.split)

@@ -3,6 +3,7 @@ pub mod Capping
 pub mod Classes
 pub mod Decimal
 pub mod Digits
+pub mod Every
 pub mod Filling
 pub mod Naming
 pub mod Sequence

@@ -1,5 +1,6 @@
 -- Writing a text: numbers in decimal, labels, and what is appended to a lent buffer. A text is a list of bytes.
 use Rattle.std.specs.Prelude.{ℕ, zero, suc, ◌+◌, ◌/◌, ◌%◌, ◌≤◌, ◌≡◌, Bool, List, [], ◌∷◌, ◌++◌, length, take, drop, ltb, leb, if◌then◌else◌}
+use Rattle.text.specs.declared.writing.Writer.{Writer}
 
 -- ---- numbers
 
@@ -50,3 +51,8 @@ written out at text = take at out ++ text ++ drop (at + length text) out
 pub record Appended (out : List ℕ) (at : ℕ) (text after : List ℕ) (next : ℕ) : Type 0 where
   pub bytes : after ≡ (if has_room out at text then written out at text else out)
   pub place : next ≡ (if has_room out at text then at + length text else at)
+
+-- a text is appended to what a writer has written; the buffer is the same slice
+pub record Appends (text : List ℕ) (before after : Writer) : Type 0 where
+  pub slice : after.buffer.ghost_name ≡ before.buffer.ghost_name
+  pub appended : Appended before.buffer.now before.length text after.buffer.now after.length

@@ -10,26 +10,17 @@ const LONGEST_NAME: usize = 16;
 pub fn name_length(text: &[u8], at: usize) -> usize
     ensures { (result ≡ name_length text.now at) × (result ≤ length text.now - at) }
 {
-    let mut n = 0;
-    while n < LONGEST_NAME {
+    for n in 0..LONGEST_NAME {
         if !is_name_byte(byte_after(text, at, n)) {
             return n;
         }
-        n += 1;
     }
-    n
+    LONGEST_NAME
 }
 
 // The n bytes at an offset are the n bytes at another.
 pub fn same_bytes(text: &[u8], at: usize, other: usize, n: usize) -> bool
     ensures { result ≡ same_bytes text.now at other n }
 {
-    let mut i = 0;
-    while i < n {
-        if byte_after(text, at, i) != byte_after(text, other, i) {
-            return false;
-        }
-        i += 1;
-    }
-    true
+    (0..n).all(|i| byte_after(text, at, i) == byte_after(text, other, i))
 }

@@ -1,13 +1,24 @@
 -- What a step of the search looks for.
-use Rattle.std.specs.Prelude.{ℕ, suc, ◌+◌, ◌-◌, ◌/◌, ◌%◌, ◌<◌, min, Bool, not, ◌&&◌, List, ◌≡◌, eqb, length, get_or, if◌then◌else◌}
+use Rattle.std.specs.Prelude.{ℕ, suc, ◌+◌, ◌-◌, ◌/◌, ◌%◌, ◌^◌, ◌<◌, min, max, Bool, not, ◌&&◌, List, ◌≡◌, eqb, length, get_or, if◌then◌else◌}
 use Rattle.search.specs.Search.{lowest, every}
 use Rattle.bitmap.specs.Bits.{bit_of, spanned}
 use Rattle.bitmap.specs.declared.looks.Found.{Found}
+use Rattle.bitmap.specs.declared.looks.Sought.{Sought}
+use Rattle.bitmap.specs.declared.looks.Sought.TheVariants.{Set, Open}
 
 -- in a word, of the bits that `starts` has set: for run 0 a set bit, else a bit from which the run's bits that stand in the word are clear
 unfoldable pub wanted_in : ℕ → ℕ → ℕ → ℕ → Bool
 wanted_in run starts w s =
     not (eqb (bit_of starts s) 0) && (if eqb run 0 then not (eqb (bit_of w s) 0) else every (λ k. eqb (bit_of w k) 0) s (min run (64 - s)))
+
+-- the two numbers of what is looked for: a run of none is as one of one
+abbrev pub run_of : Sought → ℕ
+run_of Set = 0
+run_of (Open run starts) = max run 1
+
+abbrev pub starts_of : Sought → ℕ
+starts_of Set = 2 ^ 64 - 1
+starts_of (Open run starts) = starts
 
 -- r has a bit set just where, of the `reach` bits of w from it on, some is
 abbrev pub Smears : ℕ → ℕ → ℕ → Type 0

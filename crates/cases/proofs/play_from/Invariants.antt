@@ -1,11 +1,7 @@
--- The text ends within the buffer after each turn.
-use Rattle.std.proofs.Common.{length, ◌-◌, ◌≡◌, ◌≤◌}
-use Rattle.playback.specs.Replay.{held_frames, held_bitmap_words}
+-- What is written ends within the buffer after each turn, and the tables keep their slices.
+use Rattle.frames.specs.Lent.{SameSlices}
+use Rattle.cases.specs.Steps.Texts.{Writes}
 use Rattle.cases.proofs.play_from.Given as goal
 
 abbrev pub invariant-loop-n : goal.invariant-loop-n
-invariant-loop-n l =
-    (l.text ≤ length l.out) × (length l.out ≡ length l.fn.out) × (length l.marks ≡ held_frames) × (length l.words ≡ held_frames) × (length l.bitmap ≡ held_bitmap_words) × (length l.owners ≡ held_frames)
-
-abbrev pub decreases-loop-n : goal.decreases-loop-n
-decreases-loop-n l = length l.bytes - l.n
+invariant-loop-n l = Writes l.initial.out l.out × SameSlices l.initial.tables l.tables

@@ -1,24 +1,12 @@
--- `device_calls::grant` meets its contract: its first checks refuse the call, or `grant_lowest` does it. Assumes nothing.
-use Rattle.frames.specs.Tables.{Tables, tables}
-use Rattle.rules.specs.declared.Record.{Record}
-use Rattle.rules.specs.Does.{record_with}
+-- `device_calls::grant` meets its contract: its first checks or the search for a run refuse the call, or the run found is taken. Assumes nothing.
+use borrow.Author.Rules.{rules}
+use mathlib.Core.Path.{◌≡◌, refl}
+use Rattle.answer.specs.Answers.{number_of, refused, answer_of}
 use Rattle.shape.proofs.Returns.{returns_it}
-use Rattle.device_calls.proofs.GrantOutcomes.{grant_refused, request_passed}
+use Rattle.device_calls.proofs.GrantOutcomes.{grant_refused}
 use Rattle.device_calls.proofs.grant.Goals as goal
 
-pub returns-then-number-ne-NONE : goal.returns-then-number-ne-NONE
-returns-then-number-ne-NONE c =
-    let machine : Record = record_with c.args.memory c.args.areas.now in
-    let lent : Tables = tables c.args.marks.now c.args.words.now c.args.bitmap.now c.args.owners.now in
-    let x = c.args in
-    returns_it {t = lent} c.refused.ensures (grant_refused machine x.area x.count x.align x.device lent c.request_refusal-number.ensures c.if-number-ne-NONE.true)
-
-pub grant_lowest-requires : goal.grant_lowest-requires
-grant_lowest-requires c =
-    let machine : Record = record_with c.args.memory c.args.areas.now in
-    let lent : Tables = tables c.args.marks.now c.args.words.now c.args.bitmap.now c.args.owners.now in
-    let x = c.args in
-    request_passed machine x.area x.count x.align x.device lent c.request_refusal-number.ensures c.if-number-ne-NONE.false
-
-pub returns : goal.returns
-returns c = c.grant_lowest.ensures
+pub returns-in_err-check_grant : goal.returns-in_err-check_grant
+returns-in_err-check_grant c =
+    let same : answer_of c.from_residual.result ≡ refused (number_of c.in_err-check_grant.field-0.0) = search rules in
+    ((refl, refl, refl, refl), returns_it same (grant_refused _ _ _ _ _ _ c.in_err-check_grant.ensures))

@@ -1,29 +1,15 @@
 -- `device_calls::release` meets its contract: what its checks found says what the call does. Assumes nothing.
-use Rattle.frames.specs.Tables.{Tables, tables}
-use Rattle.rules.specs.declared.Record.{Record}
-use Rattle.rules.specs.Outcomes.{Passed}
-use Rattle.rules.specs.Does.{record_with}
-use Rattle.rules.specs.DeviceCalls.{release_checks}
+use borrow.Author.Rules.{rules}
+use mathlib.Core.Path.{◌≡◌, refl, sym}
+use Rattle.answer.specs.Answers.{number_of, refused, answer_of}
 use Rattle.shape.proofs.Returns.{returns_it}
-use Rattle.device_calls.proofs.ReleaseOutcomes.{range_fits, release_passed, release_refused, release_done}
+use Rattle.device_calls.proofs.ReleaseOutcomes.{release_refused, release_done}
 use Rattle.device_calls.proofs.release.Goals as goal
 
-pub returns-then-number-ne-NONE : goal.returns-then-number-ne-NONE
-returns-then-number-ne-NONE c =
-    let machine : Record = record_with c.args.memory c.args.areas.now in
-    let lent : Tables = tables c.args.marks.now c.args.words.now c.args.bitmap.now c.args.owners.now in
-    returns_it {t = lent} c.refused.ensures (release_refused machine c.args.area c.args.frame c.args.count lent c.args.device c.release_refusal-number.ensures c.if-number-ne-NONE.true)
-
-pub free_run-requires : goal.free_run-requires
-free_run-requires c =
-    let machine : Record = record_with c.args.memory c.args.areas.now in
-    let lent : Tables = tables c.args.marks.now c.args.words.now c.args.bitmap.now c.args.owners.now in
-    let passed : Passed (release_checks machine c.args.area c.args.frame c.args.count c.args.device lent) = release_passed machine c.args.area c.args.frame c.args.count lent c.args.device c.release_refusal-number.ensures c.if-number-ne-NONE.false in
-    range_fits machine c.args.area c.args.frame c.args.count lent c.args.device passed
+pub returns-in_err-check_release : goal.returns-in_err-check_release
+returns-in_err-check_release c =
+    let same : answer_of c.from_residual.result ≡ refused (number_of c.in_err-check_release.field-0.0) = search rules in
+    ((refl, refl, refl, refl), returns_it same (release_refused _ _ _ _ _ _ c.in_err-check_release.ensures))
 
 pub returns : goal.returns
-returns c =
-    let machine : Record = record_with c.args.memory c.args.areas.now in
-    let lent : Tables = tables c.args.marks.now c.args.words.now c.args.bitmap.now c.args.owners.now in
-    let passed : Passed (release_checks machine c.args.area c.args.frame c.args.count c.args.device lent) = release_passed machine c.args.area c.args.frame c.args.count lent c.args.device c.release_refusal-number.ensures c.if-number-ne-NONE.false in
-    returns_it c.done.ensures (release_done machine c.args.area c.args.frame c.args.count lent c.args.device passed c.free_run.ensures)
+returns c = (c.free_run.ensures.same, sym (release_done _ _ _ _ _ _ c.in_ok-check_release.ensures c.free_run.ensures.freed))

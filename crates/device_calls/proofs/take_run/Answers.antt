@@ -1,72 +1,58 @@
 -- `device_calls::take_run` meets its contract: what its steps leave is what the definition does. Assumes nothing.
-use Prim.Native.Nat.{ℕ, ◌-◌}
+use Prim.Native.Nat.{ℕ}
 use native.Mathlib.Omega.{arith}
-use mathlib.Core.Path.{◌≡◌, sym, ap, subst, ◌∙◌}
+use mathlib.Core.Path.{sym, ap, subst, ◌∙◌}
+use lib.ListN.{length}
 use Rattle.frames.specs.declared.Area.{Area}
-use Rattle.frames.specs.declared.Frame.{Frame}
 use Rattle.frames.specs.declared.Place.{Place}
-use Rattle.frames.specs.Units.{place}
-use Rattle.frames.specs.Areas.{frame_of_bit, bits_for}
-use Rattle.frames.specs.Tables.{Tables, tables}
-use Rattle.rules.specs.declared.Record.{Record}
-use Rattle.rules.specs.Does.{record_with}
-use Rattle.rules.specs.DeviceCalls.{place_of_bit}
+use Rattle.frames.specs.Areas.{bits_for}
+use Rattle.frames.specs.Lent.{tables_in}
+use Rattle.frames.specs.Tables.{Tables}
+use Rattle.rules.specs.Does.{record_in}
 use Rattle.device_calls.specs.Steps.DeviceSteps.{LeavesArea}
-use Rattle.device_calls.proofs.GrantOutcomes.{taken, RunKnown, run_known}
+use Rattle.device_calls.proofs.MoveFacts.{out_keeps}
+use Rattle.device_calls.proofs.GrantOutcomes.{taken, run_known, run_placed}
 use Rattle.device_calls.proofs.take_run.Goals as goal
 
 pub bitmap_start-start-requires : goal.bitmap_start-start-requires
 bitmap_start-start-requires c =
-    let machine : Record = record_with c.args.memory c.args.areas.now in
-    let lent : Tables = tables c.args.marks.now c.args.words.now c.args.bitmap.now c.args.owners.now in
-    let has : RunKnown machine lent c.args.area c.args.count c.args.run = run_known machine lent c.args.area c.args.count c.args.run c.requires in
-    has.words_high
+    let r = c.args.request in
+    (run_known (record_in c.args.lent) (tables_in c.args.tables.now) r.area r.count c.args.run c.requires.run).words_high
 
 pub frame_of_bit-requires : goal.frame_of_bit-requires
 frame_of_bit-requires c =
-    let machine : Record = record_with c.args.memory c.args.areas.now in
-    let lent : Tables = tables c.args.marks.now c.args.words.now c.args.bitmap.now c.args.owners.now in
-    let has : RunKnown machine lent c.args.area c.args.count c.args.run = run_known machine lent c.args.area c.args.count c.args.run c.requires in
-    let k = has in
+    let r = c.args.request in
+    let k = run_known (record_in c.args.lent) (tables_in c.args.tables.now) r.area r.count c.args.run c.requires.run in
     let e = c.area_at-a.ensures in
     (rw e (omega (arith, k.order)), rw e k.frame_high)
 
 pub move_out-requires : goal.move_out-requires
 move_out-requires c =
-    let machine : Record = record_with c.args.memory c.args.areas.now in
-    let lent : Tables = tables c.args.marks.now c.args.words.now c.args.bitmap.now c.args.owners.now in
-    let has : RunKnown machine lent c.args.area c.args.count c.args.run = run_known machine lent c.args.area c.args.count c.args.run c.requires in
-    let placed : c.place_of-page.result ≡ place_of_bit machine c.args.area c.args.run = let x = c.args in
-    c.place_of-page.ensures ∙
-    ap (λ (f : Frame). place (f.0 - x.memory.base.0)) (c.frame_of_bit.ensures ∙ ap (λ (a : Area). frame_of_bit a x.run) c.area_at-a.ensures) in
-    let k = has in
-    let n = ap (λ (q : Place). q.0) placed in
-    (subst (λ (q : ℕ). LeavesArea machine c.args.area q c.args.count) (sym n) k.leaves, k.marks_length, k.words_length)
+    let m = record_in c.args.lent in
+    let r = c.args.request in
+    let k = run_known m (tables_in c.args.tables.now) r.area r.count c.args.run c.requires.run in
+    let n = ap (λ (q : Place). q.0) (run_placed m (tables_in c.args.tables.now) r.area r.count c.args.run c.area_at-a.ensures c.frame_of_bit.ensures c.place_of-page.ensures) in
+    (subst (λ (q : ℕ). LeavesArea m r.area q r.count) (sym n) k.leaves, k.marks_length, k.words_length)
 
 pub mark_run-requires : goal.mark_run-requires
 mark_run-requires c =
-    let machine : Record = record_with c.args.memory c.args.areas.now in
-    let lent : Tables = tables c.args.marks.now c.args.words.now c.args.bitmap.now c.args.owners.now in
-    let has : RunKnown machine lent c.args.area c.args.count c.args.run = run_known machine lent c.args.area c.args.count c.args.run c.requires in
-    let placed : c.place_of-page.result ≡ place_of_bit machine c.args.area c.args.run = let x = c.args in
-    c.place_of-page.ensures ∙
-    ap (λ (f : Frame). place (f.0 - x.memory.base.0)) (c.frame_of_bit.ensures ∙ ap (λ (a : Area). frame_of_bit a x.run) c.area_at-a.ensures) in
-    let k = has in
-    let n = ap (λ (q : Place). q.0) placed in
-    let some = c.requires.positive in (
-      some,
-      k.count_high,
-      omega (arith, n, some, k.leaves.room, k.marks_length, c.marks-1.given),
-      omega (arith, n, some, k.leaves.room, k.words_length, c.words-1.given),
-    )
+    let m = record_in c.args.lent in
+    let t = tables_in c.args.tables.now in
+    let r = c.args.request in
+    let k = run_known m t r.area r.count c.args.run c.requires.run in
+    let n = ap (λ (q : Place). q.0) (run_placed m t r.area r.count c.args.run c.area_at-a.ensures c.frame_of_bit.ensures c.place_of-page.ensures) in
+    let kept = out_keeps m r.area t c.place_of-page.result r.count in
+    let marks = ap (λ (u : Tables). length u.marks) c.move_out.ensures.out ∙ kept.marks_length in
+    let words = ap (λ (u : Tables). length u.words) c.move_out.ensures.out ∙ kept.words_length in
+    let some = c.requires.run.positive in
+    (some, k.count_high, omega (arith, n, some, k.leaves.room, k.marks_length, marks), omega (arith, n, some, k.leaves.room, k.words_length, words))
 
-pub returns : goal.returns
-returns c =
-    let machine : Record = record_with c.args.memory c.args.areas.now in
-    let lent : Tables = tables c.args.marks.now c.args.words.now c.args.bitmap.now c.args.owners.now in
-    let placed : c.place_of-page.result ≡ place_of_bit machine c.args.area c.args.run = let x = c.args in
-    c.place_of-page.ensures ∙
-    ap (λ (f : Frame). place (f.0 - x.memory.base.0)) (c.frame_of_bit.ensures ∙ ap (λ (a : Area). frame_of_bit a x.run) c.area_at-a.ensures) in
+pub returns-clause-taken : goal.returns-clause-taken
+returns-clause-taken c =
+    let r = c.args.request in
     let x = c.args in
-    taken machine lent x.area x.count x.run x.device placed c.move_out.ensures c.mark_run.ensures
-    c.bitmap_start-start.ensures (c.bits_for-bits.ensures ∙ ap (λ (a : Area). bits_for a x.count) c.area_at-a.ensures) c.set_run.ensures c.fill_places.ensures
+    let m = record_in x.lent in
+    let t = tables_in x.tables.now in
+    let placed = run_placed m t r.area r.count x.run c.area_at-a.ensures c.frame_of_bit.ensures c.place_of-page.ensures in
+    taken m t r.area r.count x.run r.device placed c.move_out.ensures.out c.mark_run.ensures.marked
+    c.bitmap_start-start.ensures (c.bits_for-bits.ensures ∙ ap (λ (a : Area). bits_for a r.count) c.area_at-a.ensures) c.put_run.ensures c.fill.ensures

@@ -1,6 +1,8 @@
 -- What the code of the device calls works out in a step of its own, and what a step asks of its arguments.
-use Rattle.std.specs.Prelude.{ℕ, ◌+◌, ◌-◌, ◌*◌, ◌%◌, ◌^◌, ◌≤◌, ◌<◌, max, ◌≡◌, Bool, true, false, ◌&&◌, ◌||◌, List, eqb}
+use Rattle.std.specs.Prelude.{ℕ, ◌+◌, ◌-◌, ◌*◌, ◌%◌, ◌^◌, ◌≤◌, ◌<◌, max, ◌≡◌, Bool, true, false, ◌&&◌, ◌||◌, Option, Some, None, Result, Ok, Err, ltb, eqb, if◌then◌else◌}
 use Rattle.search.specs.Search.{every}
+use Rattle.answer.specs.declared.refusal.Refusal.{Refusal}
+use Rattle.answer.specs.Answers.{number_of, done}
 use Rattle.bitmap.specs.Bits.{bit_of, is_clear, is_start}
 use Rattle.frames.specs.declared.Area.{Area}
 use Rattle.frames.specs.declared.Bit.{Bit}
@@ -8,17 +10,20 @@ use Rattle.frames.specs.declared.Frame.{Frame}
 use Rattle.frames.specs.declared.Place.{Place}
 use Rattle.frames.specs.Units.{place, bit, most_number}
 use Rattle.frames.specs.Marks.{can_leave}
-use Rattle.frames.specs.Areas.{is_multiple, end_of, per_bit, frame_of_bit, bits_for}
+use Rattle.frames.specs.Areas.{is_multiple, end_of, per_bit, bit_count, frame_of_bit, bits_for}
 use Rattle.frames.specs.Scans.{marked}
 use Rattle.frames.specs.Tables.{Tables, mark_at, word_at, set_page}
 use Rattle.rules.specs.declared.Record.{Record}
-use Rattle.device_calls.specs.declared.runs.Wanted.{Wanted}
+use Rattle.device_calls.specs.declared.GrantRequest.{GrantRequest}
+use Rattle.device_calls.specs.declared.ChosenRun.{ChosenRun}
+use Rattle.device_calls.specs.declared.runs.Search.{Search}
 use Rattle.device_calls.specs.declared.runs.Tried.{Tried}
 use Rattle.rules.specs.Record.{area_at}
 use Rattle.rules.specs.Limits.{most_areas, most_frames, most_end, most_block_order, most_align_order}
 use Rattle.rules.specs.Shape.{shape_right}
+use Rattle.rules.specs.Outcomes.{outcome, refuse}
 use Rattle.rules.specs.Targets.{in_area_at}
-use Rattle.rules.specs.DeviceCalls.{bitmap_of, is_unknown, outside_area}
+use Rattle.rules.specs.DeviceCalls.{bitmap_of, is_unknown, outside_area, chosen, take_run, grant}
 use Rattle.rules.specs.Promises.Shapes.{InArea}
 
 -- a bit's first frame is a multiple of 2^align
@@ -48,61 +53,80 @@ pub record SearchFits (m : Record) (i count align : ℕ) : Type 0 where
   pub count_high : (area_at m i).count ≤ most_frames
   pub words_high : bitmap_of m i ≤ most_number
 
+-- the lowest bit of area i at which the run can be granted, where there is one
+abbrev pub run_for : Record → Tables → ℕ → ℕ → ℕ → Option Bit
+run_for m t i count align =
+    if ltb (chosen m t i count align).0 (bit_count (area_at m i)) then Some (chosen m t i count align) else None
+
 -- a run is tried at a bit that leaves it room, and its numbers are those of a machine
-pub record TriesAt (w : Wanted) (j : Bit) : Type 0 where
-  pub room : j.0 ≤ w.last
-  pub last_high : w.last + w.bits ≤ most_frames
-  pub bit_high : w.area.order_per_bit ≤ most_block_order
-  pub base_high : w.area.base.0 ≤ most_end
-  pub bits_is : w.bits ≡ bits_for w.area w.count
-  pub positive : 0 < w.count
+pub record TriesAt (s : Search) (j : Bit) : Type 0 where
+  pub room : j.0 ≤ s.last
+  pub last_high : s.last + s.bits ≤ most_frames
+  pub bit_high : s.area.order_per_bit ≤ most_block_order
+  pub base_high : s.area.base.0 ≤ most_end
+  pub bits_is : s.bits ≡ bits_for s.area s.count
+  pub positive : 0 < s.count
+
+-- a bit of the area is clear
+abbrev pub clear_at : Search → ℕ → Bool
+clear_at s = is_clear s.bitmap.words.now s.bitmap.start
 
 -- the bits from bit j on are clear up to a bit of the area
-pub record ClearTo (bitmap : List ℕ) (w : Wanted) (j end : ℕ) : Type 0 where
-  pub high : end ≤ w.last + w.bits
-  pub clear : (k : ℕ) → j ≤ k → k < end → is_clear bitmap w.start k ≡ true
+pub record ClearTo (s : Search) (j end : ℕ) : Type 0 where
+  pub high : end ≤ s.last + s.bits
+  pub clear : (k : ℕ) → j ≤ k → k < end → clear_at s k ≡ true
 
 -- r is at least `from`; the bits between are clear; and where r is before `end`, its own bit is set
-pub record ClearUpTo (bitmap : List ℕ) (w : Wanted) (from end r : ℕ) : Type 0 where
+pub record ClearUpTo (s : Search) (from end r : ℕ) : Type 0 where
   pub low : from ≤ r
-  pub high : r ≤ max from (w.last + w.bits)
-  pub clear : (k : ℕ) → from ≤ k → k < r → is_clear bitmap w.start k ≡ true
-  pub stops : r < end → is_clear bitmap w.start r ≡ false
+  pub high : r ≤ max from (s.last + s.bits)
+  pub clear : (k : ℕ) → from ≤ k → k < r → clear_at s k ≡ true
+  pub stops : r < end → clear_at s r ≡ false
 
 -- a set bit of the run at bit j
-pub record SetIn (bitmap : List ℕ) (w : Wanted) (j set : ℕ) : Type 0 where
+pub record SetIn (s : Search) (j set : ℕ) : Type 0 where
   pub low : j ≤ set
-  pub high : set < j + w.bits
-  pub is_set : is_clear bitmap w.start set ≡ false
+  pub high : set < j + s.bits
+  pub is_set : clear_at s set ≡ false
 
 -- the run at bit j has its bits clear; its frames can all leave; both, so that it can be granted as far as they go
-abbrev pub is_clear_run : List ℕ → Wanted → ℕ → Bool
-is_clear_run bitmap w j = every (is_clear bitmap w.start) j w.bits
+abbrev pub is_clear_run : Search → ℕ → Bool
+is_clear_run s j = every (clear_at s) j s.bits
 
-abbrev pub is_leaving_run : List ℕ → Frame → Wanted → ℕ → Bool
-is_leaving_run marks base w j = every (marked can_leave marks) ((frame_of_bit w.area (bit j)).0 - base.0) w.count
+abbrev pub is_leaving_run : Search → ℕ → Bool
+is_leaving_run s j = every (marked can_leave s.marks.now) ((frame_of_bit s.area (bit j)).0 - s.base.0) s.count
 
-abbrev pub is_free_run : List ℕ → List ℕ → Frame → Wanted → ℕ → Bool
-is_free_run marks bitmap base w j = is_clear_run bitmap w j && is_leaving_run marks base w j
+abbrev pub is_free_run : Search → ℕ → Bool
+is_free_run s j = is_clear_run s j && is_leaving_run s j
 
--- the frames of the run at bit j can all leave; or none of the runs at r bits from j on has frames that all can
-pub record FramesRuleOut (marks : List ℕ) (base : Frame) (w : Wanted) (j r : ℕ) : Type 0 where
-  pub free : r ≡ 0 → is_leaving_run marks base w j ≡ true
-  pub ruled_out : (k : ℕ) → j ≤ k → k < j + r → is_leaving_run marks base w k ≡ false
-  pub high : r ≤ w.bits
+-- of the runs at r bits from j on, one at the least, none has frames that all can leave
+pub record FramesRuledOut (s : Search) (j r : ℕ) : Type 0 where
+  pub some : 0 < r
+  pub ruled_out : (k : ℕ) → j ≤ k → k < j + r → is_leaving_run s k ≡ false
+  pub high : r ≤ s.bits
+
+-- the frames of the run at bit j can all leave; or those bits are ruled out
+abbrev pub FramesRuleOut : Search → ℕ → Option ℕ → Type 0
+FramesRuleOut s j None = is_leaving_run s j ≡ true
+FramesRuleOut s j (Some r) = FramesRuledOut s j r
 
 -- of the runs at r bits from j on, one at the least, none has its bits clear where it may begin
-pub record BitsRuleOut (bitmap : List ℕ) (w : Wanted) (j r : ℕ) : Type 0 where
+pub record BitsRuleOut (s : Search) (j r : ℕ) : Type 0 where
   pub some : 0 < r
-  pub ruled_out : (k : ℕ) → j ≤ k → k < j + r → is_start w.starts k ≡ true → is_clear_run bitmap w k ≡ false
+  pub ruled_out : (k : ℕ) → j ≤ k → k < j + r → is_start s.starts k ≡ true → is_clear_run s k ≡ false
   pub high : r ≤ most_frames + 1
 
--- a try tells that the run can be granted, or at how many bits from j on none can that may begin there; and how far the bits behind are clear
-pub record Tries (marks bitmap : List ℕ) (base : Frame) (w : Wanted) (j : ℕ) (r : Tried) : Type 0 where
-  pub free : r.passed ≡ 0 → is_free_run marks bitmap base w j ≡ true
-  pub ruled_out : (k : ℕ) → j ≤ k → k < j + r.passed → is_start w.starts k ≡ true → is_free_run marks bitmap base w k ≡ false
+-- at how many bits from j on, one at the least, no run can be granted that may begin there; and how far the bits behind are clear
+pub record RuledOut (s : Search) (j : ℕ) (r : Tried) : Type 0 where
+  pub some : 0 < r.passed
+  pub ruled_out : (k : ℕ) → j ≤ k → k < j + r.passed → is_start s.starts k ≡ true → is_free_run s k ≡ false
   pub high : r.passed ≤ most_frames + 1
-  pub clear : ClearTo bitmap w (j + r.passed) r.clear_to
+  pub clear : ClearTo s (j + r.passed) r.clear_to
+
+-- a try tells that the run can be granted, or what is ruled out
+abbrev pub Tries : Search → ℕ → Option Tried → Type 0
+Tries s j None = is_free_run s j ≡ true
+Tries s j (Some r) = RuledOut s j r
 
 -- the page at place p stands at place q instead
 abbrev pub page_moved : Tables → Place → Place → Tables
@@ -127,3 +151,10 @@ pub record RunFits (m : Record) (t : Tables) (i count : ℕ) (j : Bit) : Type 0 
   pub known : i < m.memory.declared
   pub positive : 0 < count
   pub in_area : (frame_of_bit (area_at m i) j).0 + count ≤ end_of (area_at m i)
+
+-- a grant whose first checks pass is refused; or its run lies in its area, and it does what is done with that run
+abbrev pub Chooses : Record → Tables → GrantRequest → Result ChosenRun Refusal → Type 0
+Chooses m t g (Err r) = grant m g.area g.count g.align g.device t ≡ refuse m t (number_of r)
+Chooses m t g (Ok c) =
+    RunFits m t g.area g.count c.run × (g.device < 2 ^ 32) ×
+    (grant m g.area g.count g.align g.device t ≡ outcome m (done c.first.0 c.moved) (take_run m t g.area g.count c.run g.device))

@@ -1,7 +1,10 @@
--- A call's refusal as a number: that of the first check that holds, and 0, done, where none does.
-use Rattle.std.specs.Prelude.{ℕ, List, [], ◌∷◌, if◌then◌else◌}
-use Rattle.rules.specs.Outcomes.{Check}
+-- What the code's checks of a call come to.
+use Rattle.std.specs.Prelude.{List, Result, Ok, Err}
+use Rattle.answer.specs.declared.refusal.Refusal.{Refusal}
+use Rattle.answer.specs.Answers.{number_of}
+use Rattle.rules.specs.Outcomes.{Check, First, Passed}
 
-unfoldable pub first_number : List Check → ℕ
-first_number [] = 0
-first_number (c ∷ cs) = if c.holds then c.number else first_number cs
+-- no check holds; or the first that holds has the refusal's number
+abbrev pub Judged : {A : Type 0} → List Check → Result A Refusal → Type 0
+Judged cs (Ok _) = Passed cs
+Judged cs (Err r) = First cs (number_of r)

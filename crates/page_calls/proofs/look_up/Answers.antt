@@ -1,25 +1,17 @@
--- `page_calls::look_up` meets its contract: its tests are the definition's, in the definition's order. The marks have an entry for each
--- frame, so what the scan finds below their length is a place of memory. Assumes nothing.
-use borrow.Author.Tests.{not-true, not-false}
-use mathlib.Core.Path.{sym, ◌∙◌}
-use Rattle.page_calls.specs.Steps.Look.{look_up}
-use Rattle.page_calls.proofs.Looks.{look_live, look_none}
-use mathlib.Core.Bool.{not}
-use mathlib.Core.Path.{ap}
+-- `page_calls::look_up` meets its contract: what the first checks gave says what it gives. Assumes nothing.
+use Rattle.page_calls.proofs.Looks.{named, look_refused, look_found, looks_up, looked_inside}
+use mathlib.Core.Path.{◌≡◌, ◌∙◌}
+use Rattle.std.specs.Prelude.{Err}
+use Rattle.std.proofs.Common.{rules}
 use Rattle.page_calls.proofs.look_up.Goals as goal
 
-pub returns-then-not-shape_right : goal.returns-then-not-shape_right
-unfolding look_up
-returns-then-not-shape_right c = simp (sym c.shape_right.ensures ∙ not-true _ (ap not c.if-not-shape_right.true))
+pub returns-in_err-find_named-clause-found : goal.returns-in_err-find_named-clause-found
+returns-in_err-find_named-clause-found c =
+    let gives : c.from_residual.result ≡ Err c.in_err-find_named.field-0.0 = search rules in
+    gives ∙ look_refused _ _ _ (named _ _ _ c.in_err-find_named.ensures.found)
 
-pub returns-then-is_bad_name : goal.returns-then-is_bad_name
-unfolding look_up
-returns-then-is_bad_name c = simp (sym c.shape_right.ensures ∙ not-false _ (ap not c.if-not-shape_right.false), sym c.is_bad_name.ensures ∙ c.if-is_bad_name.true)
+pub returns-clause-found : goal.returns-clause-found
+returns-clause-found c = c.ok_or.ensures.value ∙ look_found _ _ _ (named _ _ _ c.in_ok-find_named.ensures.found)
 
-pub returns-then-page-marks : goal.returns-then-page-marks
-returns-then-page-marks c =
-    sym (look_live _ _ _ (sym c.shape_right.ensures ∙ not-false _ (ap not c.if-not-shape_right.false)) (sym c.is_bad_name.ensures ∙ c.if-is_bad_name.false) _ c.find_page-page.ensures c.if-page-marks.true)
-
-pub returns : goal.returns
-returns c =
-    sym (look_none _ _ _ (sym c.shape_right.ensures ∙ not-false _ (ap not c.if-not-shape_right.false)) (sym c.is_bad_name.ensures ∙ c.if-is_bad_name.false) _ c.find_page-page.ensures c.if-page-marks.false)
+pub returns-clause-inside : goal.returns-clause-inside
+returns-clause-inside c = looked_inside _ _ _ (looks_up _ _ _ (returns-clause-found c))

@@ -1,16 +1,22 @@
--- `page_calls::put_page` meets its contract: a name that is live refuses it, and so does what the look_up refuses for another reason.
--- Assumes nothing.
-use Rattle.page_calls.proofs.Puts.{put_live, put_refused}
-use Rattle.shape.proofs.Returns.{returns_it}
-use Rattle.page_calls.specs.declared.Found.TheVariants.{Not}
-use mathlib.Core.Path.{sym, ap, ◌∙◌}
+-- `page_calls::put_page` meets its contract: the first checks, and the place that it takes, say what it does. Assumes nothing.
+use Rattle.page_calls.proofs.Looks.{does, refused_so}
+use Rattle.page_calls.proofs.Puts.{put_refused, put_live, put_full, put_done}
+use mathlib.Core.Path.{sym, ◌∙◌}
+use Rattle.std.proofs.Common.{rules}
 use Rattle.page_calls.proofs.put_page.Goals as goal
 
-pub returns-then-number-ne-NOT_LIVE : goal.returns-then-number-ne-NOT_LIVE
-returns-then-number-ne-NOT_LIVE c = returns_it c.refused-then-number-ne-NOT_LIVE.ensures (put_refused _ _ _ _ (sym c.look_up-found.ensures ∙ c.in-Not.is) c.if-number-ne-NOT_LIVE.true)
+pub returns-in_err-find_named : goal.returns-in_err-find_named
+returns-in_err-find_named c = does (refused_so (search rules) (put_refused _ _ _ _ c.in_err-find_named.ensures.found))
 
-pub put_new-requires : goal.put_new-requires
-put_new-requires c = record { owners_value = sym c.look_up-found.ensures ∙ c.in-Not.is ∙ ap Not c.if-number-ne-NOT_LIVE.false; kind_lt_kinds = c.requires }
+pub returns-then-is_some : goal.returns-then-is_some
+returns-then-is_some c = does (put_live _ _ _ _ _ c.in_ok-find_named.ensures.found c.if-is_some.ensures)
 
-pub returns-in-At : goal.returns-in-At
-returns-in-At c = returns_it c.refused.ensures (put_live _ _ _ _ (sym c.look_up-found.ensures ∙ c.in-At.is))
+pub returns-in_err-page : goal.returns-in_err-page
+returns-in_err-page c =
+    does (refused_so (search rules)
+    (put_full _ _ _ _ _ c.in_ok-find_named.ensures.found c.if-is_some.ensures _ c.place_for.ensures.found c.in_err-page.ensures.value))
+
+pub returns : goal.returns
+returns c =
+    does (put_done _ _ _ _ _ c.in_ok-find_named.ensures.found c.if-is_some.ensures c.in_ok-find_named.ensures.passed.0
+    (sym c.in_ok-page.ensures.ok_part ∙ c.place_for.ensures.found) c.mark.ensures c.frame_at-taken.ensures)

@@ -1,18 +1,12 @@
--- `playback::has_room` meets its contract: each `if` is a part of the test. Assumes nothing.
-use Prim.Native.Nat.{◌+◌}
-use native.Mathlib.Omega.{arith}
-use borrow.Author.Tests.{le-leb, lt-leb}
-use Rattle.playback.specs.Playback.{has_room_for, room}
+-- `playback::has_room` meets its contract: the room of a line, and a step more. Assumes nothing.
+use mathlib.Core.Path.{sym, ◌∙◌}
+use Rattle.playback.specs.Playback.{has_room_for}
 use Rattle.playback.proofs.has_room.Goals as goal
 
-pub returns-then-size-lt-ROOM : goal.returns-then-size-lt-ROOM
+pub returns-then-has_room : goal.returns-then-has_room
 unfolding has_room_for
-returns-then-size-lt-ROOM c = rw (lt-leb (c.args.text + room) c.args.size (omega arith))
+returns-then-has_room c = rw (sym c.has_room.ensures ∙ c.if-has_room.true)
 
-pub returns-then-size-text : goal.returns-then-size-text
+pub returns-else-has_room : goal.returns-else-has_room
 unfolding has_room_for
-returns-then-size-text c = rw (lt-leb (c.args.text + room) c.args.size (omega arith))
-
-pub returns : goal.returns
-unfolding has_room_for
-returns c = rw (le-leb (c.args.text + room) c.args.size (omega arith))
+returns-else-has_room c = rw (sym c.has_room.ensures ∙ c.if-has_room.false) c.if-has_room.false

@@ -1,41 +1,39 @@
 -- `records::decode` meets its contract: its tests are the definition's, in the same order. Assumes nothing.
+use Prim.Native.Nat.{◌+◌}
 use native.Mathlib.Omega.{arith}
-use mathlib.Core.Path.{◌≡◌, ◌∙◌, sym}
-use lib.ListN.{get_or}
-use Rattle.records.specs.Records.{body_length}
-use Rattle.records.proofs.Bodies.{known}
-use Rattle.records.proofs.Decoding.{decode_past, decode_unknown, decode_cut, decode_whole}
+use mathlib.Core.Path.{◌≡◌, ◌∙◌, sym, ap}
+use lib.ListN.{get_or, length, length-drop}
+use Rattle.std.proofs.Common.{rules}
+use Rattle.std.specs.Prelude.{Err}
+use Rattle.records.specs.declared.Undecoded.TheVariants.{Unknown, Cut}
+use Rattle.records.specs.Records.{number_of, body_length}
+use Rattle.records.proofs.Bodies.{unknown_length}
+use Rattle.records.proofs.Decoding.{decode_past, decode_unknown, kind_cut, kind_whole}
+use Rattle.records.proofs.Pieces.{rest_after, body_after}
 use Rattle.records.proofs.decode.Goals as goal
 
-pub returns-then-bytes-at : goal.returns-then-bytes-at
-returns-then-bytes-at c =
+pub returns-in_err-first : goal.returns-in_err-first
+returns-in_err-first c =
     let a = c.args in
-    sym (decode_past a.bytes.now a.at c.if-bytes-at.true)
+    let gives : c.from_residual.result ≡ Err Cut = search rules in
+    gives ∙ sym (decode_past a.bytes.now a.at (search rules))
 
-pub returns-then-length-eq0 : goal.returns-then-length-eq0
-returns-then-length-eq0 c =
+pub returns-in_err-kind : goal.returns-in_err-kind
+returns-in_err-kind c =
     let a = c.args in
-    sym (decode_unknown a.bytes.now a.at c.if-bytes-at.false (sym c.body_length-length.ensures ∙ c.if-length-eq0.true))
+    let first : get_or a.bytes.now a.at 0 ≡ c.in_ok-first.field-0.now = search rules in
+    let gives : c.from_residual-in_err-kind.result ≡ Err Unknown = search rules in
+    gives ∙ sym (decode_unknown a.bytes.now a.at (search rules) (ap body_length first ∙ unknown_length _ (omega (arith, c.in_err-kind.ensures.1))))
 
-pub returns-then-bytes-at-2 : goal.returns-then-bytes-at-2
-returns-then-bytes-at-2 c =
-    let known-kind : body_length (get_or c.args.bytes.now c.args.at 0) ≡ 0 → ⊥ = λ e. c.if-length-eq0.false (c.body_length-length.ensures ∙ e) in
+pub returns-then-rest-length : goal.returns-then-rest-length
+returns-then-rest-length c =
     let a = c.args in
-    sym
-    (decode_cut a.bytes.now a.at c.if-bytes-at.false known-kind
-    (omega (arith, c.if-bytes-at-2.true, c.body_length-length.ensures)))
-
-pub body-requires : goal.body-requires
-body-requires c =
-    let known-kind : body_length (get_or c.args.bytes.now c.args.at 0) ≡ 0 → ⊥ = λ e. c.if-length-eq0.false (c.body_length-length.ensures ∙ e) in
-    (omega (arith, c.if-bytes-at-2.false, c.body_length-length.ensures), known _ known-kind)
+    sym (kind_cut a.bytes.now a.at c.in_ok-kind.kind (search rules) (search rules)
+    (omega (arith, c.if-rest-length.true, c.body_length-length.ensures, ap length (rest_after (a.at + 1) a.bytes.now), length-drop (a.at + 1) a.bytes.now)))
 
 pub returns : goal.returns
 returns c =
-    let known-kind : body_length (get_or c.args.bytes.now c.args.at 0) ≡ 0 → ⊥ = λ e. c.if-length-eq0.false (c.body_length-length.ensures ∙ e) in
     let a = c.args in
-    let e = c.body_length-length.ensures in
-    rw (c.body.ensures, e)
-    (sym
-    (decode_whole a.bytes.now a.at c.if-bytes-at.false known-kind
-    (omega (arith, c.if-bytes-at-2.false, e))))
+    rw (c.call.ensures, body_after (number_of c.in_ok-kind.kind) (a.at + 1) a.bytes.now, c.body_length-length.ensures)
+    (sym (kind_whole a.bytes.now a.at c.in_ok-kind.kind (search rules) (search rules)
+    (omega (arith, c.if-rest-length.false, c.body_length-length.ensures, ap length (rest_after (a.at + 1) a.bytes.now), length-drop (a.at + 1) a.bytes.now))))

@@ -1,16 +1,14 @@
 -- The steps by which a region is read, in the terms of the rules: each is a part of a definition of `Amounts` or `Text`, and the contract
--- of the function that takes the step. And what the functions' own answers stand for.
+-- of the function that takes the step.
 use Rattle.std.specs.Prelude.{ℕ, Bool, false, not, ◌&&◌, ◌||◌, List, ltb, eqb, length, if◌then◌else◌}
 use Rattle.text.specs.Names.{name, same_bytes}
 use Rattle.text.specs.Numbers.{most_bytes}
-use Rattle.text.specs.Reading.{Read, gives, refuses, ◌then◌, refuse_if}
+use Rattle.text.specs.Reading.{Read, gives, ◌then◌, refuse_if}
 use Rattle.regions.specs.declared.amounts.Purpose.{Purpose}
 use Rattle.regions.specs.declared.amounts.Purpose.TheVariants.{Size, Start, Alignment}
-use Rattle.regions.specs.declared.parts.Found.{Found}
-use Rattle.regions.specs.declared.parts.Found.TheVariants as Part
 use Rattle.regions.specs.declared.Region.{Region}
 use Rattle.regions.specs.Amounts.{is_alignment}
-use Rattle.regions.specs.Text.{is_named, expect, optional, size, start, alignment, allocator, region}
+use Rattle.regions.specs.Text.{is_named, expect, region}
 
 -- what a number of a use may not be
 abbrev pub wrong_for : Purpose → ℕ → Bool
@@ -32,32 +30,6 @@ new_name before s at =
     name s at then λ n end.
     refuse_if (is_named before s at n) 22 at (expect 61 s end) then λ _ next.
     gives n next
-
-abbrev pub region_read : Found → Read Region
-region_read (Part.Gives r next) = gives r next
-region_read (Part.Refuses number at) = refuses number at
-
-abbrev pub bare_region : ℕ → ℕ → Region
-bare_region at n = record { name = at; length = n; size = 0; start = 0; alignment = 0 }
-
--- what is left of a region, from its allocator on, from its alignment on, from its start on and from its size on
-unfoldable pub allocated_from : Region → List ℕ → ℕ → Read Region
-allocated_from r s at = optional 58 allocator 0 s at then λ _ next. gives r next
-
-unfoldable pub aligned_from : Region → List ℕ → ℕ → Read Region
-aligned_from r s at =
-    optional 47 alignment 0 s at then λ to next.
-    allocated_from (record { name = r.name; length = r.length; size = r.size; start = r.start; alignment = to }) s next
-
-unfoldable pub started_from : Region → List ℕ → ℕ → Read Region
-started_from r s at =
-    optional 64 start 0 s at then λ from next.
-    aligned_from (record { name = r.name; length = r.length; size = r.size; start = from; alignment = r.alignment }) s next
-
-unfoldable pub sized_from : Region → List ℕ → ℕ → Read Region
-sized_from r s at =
-    size s at then λ bytes next.
-    started_from (record { name = r.name; length = r.length; size = bytes; start = r.start; alignment = r.alignment }) s next
 
 -- the ; after a region, or the end of the text
 unfoldable pub separated_from : Region → List ℕ → ℕ → Read Region

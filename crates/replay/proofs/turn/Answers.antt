@@ -6,6 +6,7 @@ use Rattle.replay.proofs.turn.Goals as goal
 pub after-requires : goal.after-requires
 after-requires g c =
     let given = c.requires in
-    let went = ran _ _ c.answer_records-stopped.ensures (search rules) (omega arith) in
+    let went = ran _ _ c.answer_records-stopped.ensures.answered (search rules) (omega arith) in
     let kept = c.answer_records-stopped.auto in
+    let taken = c.in_ok-left.ensures in
     (record { inside = omega arith; most = omega arith; steps = omega arith; budget = omega arith }, omega arith, omega arith)

@@ -1,5 +1,5 @@
 -- What the program's numbers keep to, so that no place lies outside a buffer and no offset and no step wraps.
-use Rattle.std.specs.Prelude.{ℕ, ◌+◌, ◌*◌, ◌≤◌, ◌^◌}
+use Rattle.std.specs.Prelude.{ℕ, Option, Some, None, ◌+◌, ◌*◌, ◌≤◌, ◌<◌, ◌^◌}
 use Rattle.replay.specs.declared.State.{State}
 
 -- the bytes of a block of input
@@ -17,3 +17,13 @@ pub record Bounds (s : State) : Type 0 where
 pub record Next (before s : State) : Type 0 where
   pub bounds : Bounds s
   pub left : s.left ≤ before.left
+
+-- a state that follows after a turn, which takes one of the turns that are left
+pub record Turned (before s : State) : Type 0 where
+  pub bounds : Bounds s
+  pub left : s.left < before.left
+
+-- the turns that can follow, with the one that ends the program
+abbrev pub turns_from : Option State → ℕ
+turns_from None = 0
+turns_from (Some s) = s.left + 1

@@ -18,6 +18,6 @@ in-frames bits order few small =
 pub returns : goal.returns
 returns c =
     let area = c.args.area in
-    let row = (longest_is (is_clear c.args.bitmap.now c.args.word) 0 (bit_count area)).found in
+    let row = (longest_is (is_clear c.args.bitmap.words.now c.args.bitmap.start) 0 (bit_count area)).found in
     rw (c.longest_clear-bits.ensures, c.bits.ensures)
     (in-frames _ area.order_per_bit (omega (arith, row.high, row.low, div-le_self area.count (per_bit area), c.requires.0)) c.requires.1)

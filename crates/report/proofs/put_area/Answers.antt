@@ -4,9 +4,9 @@ use native.Mathlib.Omega.{arith}
 use mathlib.Core.List.{List, [], ◌∷◌}
 use lib.ListN.{length-append}
 use Rattle.text.specs.Writing.{four_numbers}
-use Rattle.text.proofs.Buffer.{appended_then}
 use Rattle.text.proofs.Texts.{four_most}
 use Rattle.rules.specs.Report.{area_line}
+use Rattle.report.proofs.Fronts.{appends_then}
 use Rattle.report.proofs.put_area.Goals as goal
 
 pub returns : goal.returns
@@ -15,7 +15,5 @@ returns c =
     let a = c.args in
     let label : List ℕ = 97 ∷ 114 ∷ 101 ∷ 97 ∷ 32 ∷ [] in
     let numbers = four_numbers a.number a.count a.used a.chunk in
-    appended_then a.out.now a.at label numbers
+    appends_then c.put_bytes.ensures c.put_four.ensures
     (omega (arith, length-append label numbers, four_most a.number a.count a.used a.chunk, c.requires))
-    c.put_bytes-after_label.ensures
-    c.put_four.ensures

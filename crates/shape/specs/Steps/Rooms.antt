@@ -1,10 +1,9 @@
 -- What the check that areas are apart keeps of those that it has passed: a room between them.
-use Rattle.std.specs.Prelude.{ℕ, ◌+◌, ◌≤◌, ◌<◌, ◌≡◌, Bool, true, ◌&&◌, ◌⊎◌, List, leb}
+use Rattle.std.specs.Prelude.{ℕ, ◌+◌, ◌≤◌, ◌<◌, ◌≡◌, Bool, true, ◌&&◌, ◌⊎◌, List, leb, Option, is_some, IfSome}
 use Rattle.frames.specs.declared.Area.{Area}
 use Rattle.search.specs.Search.{every}
 use Rattle.frames.specs.Areas.{area_in, end_of, are_disjoint}
 use Rattle.shape.specs.declared.Room.{Room}
-use Rattle.shape.specs.declared.Judged.{Judged}
 
 -- the area lies in the room
 abbrev pub lies_in : Area → Room → Bool
@@ -24,13 +23,12 @@ pub record PartBeside (a : Area) (room r : Room) : Type 0 where
   pub high : r.end.0 ≤ room.end.0
   pub beside : IsBeside a r
 
--- area i is beside each area before it: whether it is apart from them and, where it is, a room in which it lies and that is free of them
-pub record Surrounds (areas : List ℕ) (i : ℕ) (r : Judged) : Type 0 where
-  pub apart : r.apart ≡ every (λ k. are_disjoint (area_in areas k) (area_in areas i)) 0 i
-  pub free : r.apart ≡ true → IsFree areas i r.room
-  pub lies : r.apart ≡ true → lies_in (area_in areas i) r.room ≡ true
+-- area i is apart from each area before it just where there is a room: one in which it lies, and that is free of them
+pub record Surrounds (areas : List ℕ) (i : ℕ) (r : Option Room) : Type 0 where
+  pub apart : is_some r ≡ every (λ k. are_disjoint (area_in areas k) (area_in areas i)) 0 i
+  pub room : IfSome r (λ room. IsFree areas i room × (lies_in (area_in areas i) room ≡ true))
 
--- of area i it is told whether it is apart from the areas before it and, where it is, a room that is free of it too
-pub record Tells (areas : List ℕ) (i : ℕ) (r : Judged) : Type 0 where
-  pub apart : r.apart ≡ every (λ k. are_disjoint (area_in areas k) (area_in areas i)) 0 i
-  pub free : r.apart ≡ true → IsFree areas (i + 1) r.room
+-- area i is apart from each area before it just where there is a room: one that is free of it too
+pub record Tells (areas : List ℕ) (i : ℕ) (r : Option Room) : Type 0 where
+  pub apart : is_some r ≡ every (λ k. are_disjoint (area_in areas k) (area_in areas i)) 0 i
+  pub room : IfSome r (λ room. IsFree areas (i + 1) room)

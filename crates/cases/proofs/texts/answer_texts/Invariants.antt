@@ -1,11 +1,11 @@
--- The text ends within the buffer after each turn.
-use Rattle.std.proofs.Common.{length, ◌-◌, ◌≡◌, ◌≤◌}
-use Rattle.playback.specs.Replay.{held_bitmap_words}
+-- What is written ends within the buffer after each text, and the tables keep their slices.
+use Rattle.std.proofs.Common.{ℕ, length}
+use Rattle.frames.specs.Lent.{SameSlices}
+use Rattle.cases.specs.Steps.Texts.{Writes}
 use Rattle.cases.proofs.texts.answer_texts.Given as goal
 
-abbrev pub invariant-loop-at : goal.invariant-loop-at
-invariant-loop-at l =
-    (l.text ≤ length l.out) × (length l.out ≡ length l.fn.out) × (length l.marks ≡ 32) × (length l.words ≡ 32) × (length l.bitmap ≡ held_bitmap_words) × (length l.owners ≡ 32)
+abbrev pub invariant-loop-text : goal.invariant-loop-text
+invariant-loop-text l = Writes l.initial.out l.out × SameSlices l.initial.tables l.tables
 
-abbrev pub decreases-loop-at : goal.decreases-loop-at
-decreases-loop-at l = length l.list - l.at
+abbrev pub decreases-loop-text : goal.decreases-loop-text
+decreases-loop-text l = length l.rest

@@ -1,9 +1,6 @@
--- The text ends within the buffer after each turn.
-use Rattle.std.proofs.Common.{length, ◌-◌, ◌≡◌, ◌≤◌}
+-- What is written ends within the buffer after each area.
+use Rattle.cases.specs.Steps.Texts.{Writes}
 use Rattle.cases.proofs.texts.put_areas.Given as goal
 
 abbrev pub invariant-loop-i : goal.invariant-loop-i
-invariant-loop-i l = (l.text ≤ length l.out) × (length l.out ≡ length l.fn.out)
-
-abbrev pub decreases-loop-i : goal.decreases-loop-i
-decreases-loop-i l = l.last - l.i
+invariant-loop-i l = Writes l.initial.out l.out

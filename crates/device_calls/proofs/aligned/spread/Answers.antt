@@ -7,32 +7,32 @@ use Rattle.device_calls.specs.Steps.DeviceSteps.{Spreads}
 use Rattle.device_calls.proofs.Starts.{spreads, spreads_one}
 use Rattle.device_calls.proofs.aligned.spread.Goals as goal
 
-at : (order k r : ℕ) → order ≡ k → Spreads k r → Spreads order r
-at order k r e s = subst (λ (o : ℕ). Spreads o r) (sym e) s
+at : {order k : ℕ} (r : ℕ) → order ≡ k → Spreads k r → Spreads order r
+at r e s = subst (λ (o : ℕ). Spreads o r) (sym e) s
 
-pub returns-then-order-eq0 : goal.returns-then-order-eq0
+pub returns-in-0 : goal.returns-in-0
 unfolding every some lowest_from
-returns-then-order-eq0 c = at _ 0 _ c.if-order-eq0.true (spreads 0 _ refl)
+returns-in-0 c = at _ c.in-0.is (spreads 0 _ refl)
 
-pub returns-then-order-eq1 : goal.returns-then-order-eq1
+pub returns-in-1 : goal.returns-in-1
 unfolding every some lowest_from
-returns-then-order-eq1 c = at _ 1 _ c.if-order-eq1.true (spreads 1 _ refl)
+returns-in-1 c = at _ c.in-1.is (spreads 1 _ refl)
 
-pub returns-then-order-eq2 : goal.returns-then-order-eq2
+pub returns-in-2 : goal.returns-in-2
 unfolding every some lowest_from
-returns-then-order-eq2 c = at _ 2 _ c.if-order-eq2.true (spreads 2 _ refl)
+returns-in-2 c = at _ c.in-2.is (spreads 2 _ refl)
 
-pub returns-then-order-eq3 : goal.returns-then-order-eq3
+pub returns-in-3 : goal.returns-in-3
 unfolding every some lowest_from
-returns-then-order-eq3 c = at _ 3 _ c.if-order-eq3.true (spreads 3 _ refl)
+returns-in-3 c = at _ c.in-3.is (spreads 3 _ refl)
 
-pub returns-then-order-eq4 : goal.returns-then-order-eq4
+pub returns-in-4 : goal.returns-in-4
 unfolding every some lowest_from
-returns-then-order-eq4 c = at _ 4 _ c.if-order-eq4.true (spreads 4 _ refl)
+returns-in-4 c = at _ c.in-4.is (spreads 4 _ refl)
 
-pub returns-then-order-eq5 : goal.returns-then-order-eq5
+pub returns-in-5 : goal.returns-in-5
 unfolding every some lowest_from
-returns-then-order-eq5 c = at _ 5 _ c.if-order-eq5.true (spreads 5 _ refl)
+returns-in-5 c = at _ c.in-5.is (spreads 5 _ refl)
 
-pub returns : goal.returns
-returns c = spreads_one _ (omega arith)
+pub returns-in_default : goal.returns-in_default
+returns-in_default c = spreads_one _ (omega arith)

@@ -7,7 +7,8 @@ use Rattle.device_calls.proofs.runs.find_run.Given as goal
 
 abbrev pub invariant-loop-j : goal.invariant-loop-j
 invariant-loop-j l =
-    Looking l.marks l.bitmap l.memory.base l.wanted.area l.wanted.start l.count l.align l.j × ClearTo l.bitmap l.wanted l.j l.clear_to
+    let s = l.search in
+    Looking s.marks.now s.bitmap.words.now s.base s.area s.bitmap.start s.count l.fn.request.align l.j × ClearTo s l.j l.clear_to
 
 abbrev pub decreases-loop-j : goal.decreases-loop-j
 decreases-loop-j l = (l.last + 1) - l.j

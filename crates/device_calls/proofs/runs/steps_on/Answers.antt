@@ -1,38 +1,18 @@
 -- `device_calls::runs::steps_on` meets its contract: no number of it is too large. Assumes nothing.
-use Prim.Native.Nat.{◌+◌, ◌-◌, ◌^◌, ◌≤◌}
+use Prim.Native.Nat.{ℕ, ◌+◌, ◌*◌, ◌^◌, ◌≤◌, ◌<◌}
 use native.Mathlib.Omega.{arith}
-use native.Mathlib.Nat.{div-mul-le_self}
+use mathlib.Core.Path.{◌≡◌, ap, ap₂, ◌∙◌}
 use lib.Pow.{pow_pos, pow_mono}
+use Rattle.frames.specs.Areas.{ceiling}
+use Rattle.frames.proofs.AreaFacts.{ceiling_is}
 use Rattle.rules.specs.Limits.{most_align_order}
 use Rattle.device_calls.proofs.runs.steps_on.Goals as goal
 
-pub block_of-step-requires : goal.block_of-step-requires
-block_of-step-requires c = omega arith
-
-pub overflow_sub-result : goal.overflow_sub-result
-overflow_sub-result c =
-    let step-high : (1 ≤ c.block_of-step.result) × (c.block_of-step.result ≤ 2 ^ most_align_order) = (omega (arith, c.block_of-step.ensures, pow_pos c.args.order), omega (arith, c.block_of-step.ensures, pow_mono {i = c.args.order} {j = most_align_order} c.requires.0)) in
-    omega (arith, step-high.0)
-
-pub overflow_add-result : goal.overflow_add-result
-overflow_add-result c =
-    let step-high : (1 ≤ c.block_of-step.result) × (c.block_of-step.result ≤ 2 ^ most_align_order) = (omega (arith, c.block_of-step.ensures, pow_pos c.args.order), omega (arith, c.block_of-step.ensures, pow_mono {i = c.args.order} {j = most_align_order} c.requires.0)) in
-    omega (arith, step-high.1, c.requires.2)
-
-pub nonzero_div-result : goal.nonzero_div-result
-nonzero_div-result c =
-    let step-high : (1 ≤ c.block_of-step.result) × (c.block_of-step.result ≤ 2 ^ most_align_order) = (omega (arith, c.block_of-step.ensures, pow_pos c.args.order), omega (arith, c.block_of-step.ensures, pow_mono {i = c.args.order} {j = most_align_order} c.requires.0)) in
-    omega (arith, step-high.0)
-
-pub overflow_mul-result : goal.overflow_mul-result
-overflow_mul-result c =
-    let step-high : (1 ≤ c.block_of-step.result) × (c.block_of-step.result ≤ 2 ^ most_align_order) = (omega (arith, c.block_of-step.ensures, pow_pos c.args.order), omega (arith, c.block_of-step.ensures, pow_mono {i = c.args.order} {j = most_align_order} c.requires.0)) in
-    omega (arith, step-high.1, c.requires.2, div-mul-le_self (c.args.passed + (c.block_of-step.result - 1)) c.block_of-step.result)
-
-pub overflow_add-result-2 : goal.overflow_add-result-2
-overflow_add-result-2 c =
-    let step-high : (1 ≤ c.block_of-step.result) × (c.block_of-step.result ≤ 2 ^ most_align_order) = (omega (arith, c.block_of-step.ensures, pow_pos c.args.order), omega (arith, c.block_of-step.ensures, pow_mono {i = c.args.order} {j = most_align_order} c.requires.0)) in
-    omega (arith, step-high.1, c.requires.1, c.requires.2, div-mul-le_self (c.args.passed + (c.block_of-step.result - 1)) c.block_of-step.result)
+-- a step is some bits, and no more than of the most order
+step_fits : {order step : ℕ} → step ≡ 2 ^ order → order ≤ most_align_order → (0 < step) × (step ≤ 2 ^ most_align_order)
+step_fits {order} e h = (omega (arith, e, pow_pos order), omega (arith, e, pow_mono {i = order} {j = most_align_order} h))
 
 pub returns : goal.returns
-returns c = rw (← c.block_of-step.ensures)
+returns c =
+    let some = (step_fits c.block_of-step.ensures c.requires.0).0 in
+    ap₂ (λ (n s : ℕ). c.args.bit + n * s) (c.div_ceil.ensures ∙ ceiling_is c.args.passed c.block_of-step.result some ∙ ap (ceiling c.args.passed) c.block_of-step.ensures) c.block_of-step.ensures

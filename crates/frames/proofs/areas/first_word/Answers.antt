@@ -4,17 +4,16 @@ use Rattle.frames.proofs.AreaFacts.{first_word_zero, first_word_next, first_word
 use Rattle.frames.proofs.areas.first_word.Goals as goal
 
 pub loop-before-init : goal.loop-before-init
-loop-before-init c = (omega arith, omega (arith, first_word_zero c.args.areas.now))
+loop-before-init c = omega (arith, first_word_zero c.args.areas.now)
 
 pub loop-before-preserved : goal.loop-before-preserved
 loop-before-preserved c =
-    let areas = c.args.areas.now in
     let at = c.loop-before in
-    let words = rw c.area_at-area.ensures at c.words-words.ensures in
-    (omega arith, omega (arith, at.invariant.1, first_word_next areas at.before, c.sum_or_most-word.ensures, words))
+    let words = rw c.area_at.ensures at c.words.ensures in
+    omega (arith, at.invariant, first_word_next c.args.areas.now at.before, c.saturating_add-word.ensures, words)
 
 pub returns : goal.returns
 returns c =
     let x = c.args in
     let at = c.loop-before in
-    omega (arith, at.invariant.1, first_word_clip x.areas.now x.i at.before (omega arith))
+    omega (arith, at.invariant, first_word_clip x.areas.now x.i at.before (omega arith))

@@ -1,13 +1,9 @@
 -- `frames::marks::first_stuck` meets its contract: a scan for the first kind above movable; past the end a mark reads free. Assumes nothing.
-use native.Mathlib.Omega.{arith}
 use Rattle.frames.proofs.Stuck.{stuck_none, stuck_low, stuck_found, stuck_left}
 use Rattle.frames.proofs.marks.first_stuck.Goals as goal
 
 pub returns-then-end-first : goal.returns-then-end-first
 returns-then-end-first c = let x = c.args in stuck_none x.marks.now x.from.0 x.count c.range_end-end.result c.range_end-end.ensures c.if-end-first.true
-
-pub stuck_in-at-requires : goal.stuck_in-at-requires
-stuck_in-at-requires c = (omega arith, omega (arith, c.range_end-end.ensures))
 
 pub overflow_sub-result : goal.overflow_sub-result
 overflow_sub-result c =

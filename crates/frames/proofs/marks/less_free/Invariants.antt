@@ -6,7 +6,7 @@ use Rattle.frames.proofs.ScanFacts.{Taking}
 use Rattle.frames.proofs.marks.less_free.Given as goal
 
 abbrev pub invariant-loop-i : goal.invariant-loop-i
-invariant-loop-i l = (l.i ≤ l.last) × Taking (marked (has_kind free) l.marks) l.initial.i l.last l.least l.left l.i
+invariant-loop-i l = (l.i ≤ l.end.0) × Taking (marked (has_kind free) l.marks) l.initial.i l.end.0 l.least l.left l.i
 
 abbrev pub decreases-loop-i : goal.decreases-loop-i
-decreases-loop-i l = l.last - l.i
+decreases-loop-i l = l.end.0 - l.i

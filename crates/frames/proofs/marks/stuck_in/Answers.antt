@@ -1,12 +1,13 @@
 -- `frames::marks::stuck_in` meets its contract: what is found among the first few places is the lowest of the range. Assumes nothing.
 use Prim.Native.Nat.{◌+◌}
 use native.Mathlib.Omega.{arith}
-use mathlib.Core.Bool.{true}
-use Rattle.frames.specs.Scans.{marked, has_bits}
+use mathlib.Core.Bool.{not}
+use Rattle.frames.specs.Marks.{can_leave}
+use Rattle.frames.specs.Scans.{marked}
 use Rattle.frames.proofs.ScanFacts.{seek_start, part_hit}
 use Rattle.frames.proofs.marks.stuck_in.Goals as goal
 
 pub returns-then-at-few : goal.returns-then-at-few
 returns-then-at-few c =
     let x = c.args in
-    part_hit (seek_start {p = marked (has_bits true 6) x.marks.now} {from = x.from.0} {end = x.end.0}) (x.from.0 + 8) _ (omega arith) (omega arith) c.kind_one_by_one-at.ensures c.if-at-few.true
+    part_hit (seek_start {p = marked (λ mark. not (can_leave mark)) x.marks.now} {from = x.from.0} {end = x.end.0}) (x.from.0 + 8) _ (omega arith) (omega arith) c.one_by_one-at.ensures c.if-at-few.true

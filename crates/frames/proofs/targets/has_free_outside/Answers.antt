@@ -14,10 +14,10 @@ pub returns : goal.returns
 returns c =
     let x = c.args in
     let len = length x.marks.now in
-    let start = c.earlier_place-start in
-    let end = c.later_place-end in
+    let start = c.min in
+    let end = c.max in
     let begins = start.ensures ∙ ap (λ (p : Place). min p.0 len) c.place_of.ensures in
-    let ends = end.ensures ∙ ap (λ (k : ℕ). max start.result.0 k) c.end_place.ensures in
-    let whole : start.result.0 - 0 ≡ start.result.0 = omega arith in
+    let ends = end.ensures ∙ ap (λ (k : ℕ). max start.result k) c.end_place.ensures in
+    let whole : start.result - 0 ≡ start.result = omega arith in
     let low = c.less_free-left.ensures ∙ ap (λ (d : ℕ). x.least - how_many (marked (has_kind free) x.marks.now) 0 d) whole in
-    outside_count x.marks.now x.base x.area start.result.0 end.result.0 begins ends x.least c.less_free-left.result c.less_free.result low c.less_free.ensures
+    outside_count x.marks.now x.base x.area start.result end.result begins ends x.least c.less_free-left.result c.less_free.result low c.less_free.ensures

@@ -3,11 +3,8 @@ use Rattle.setup.proofs.Taken.{held_stays, held_moves}
 use native.Mathlib.Omega.{arith}
 use Rattle.setup.proofs.place.later_held.Goals as goal
 
-pub returns-then-past-area : goal.returns-then-past-area
-returns-then-past-area c = λ areas k same s. held_stays same s _ c.end_before-past.ensures (omega arith)
-
-pub returns-then-past-held : goal.returns-then-past-held
-returns-then-past-held c = λ areas k same s. held_stays same s _ c.end_before-past.ensures (omega arith)
+pub returns-then-past-max : goal.returns-then-past-max
+returns-then-past-max c = λ areas k same s. held_stays same s _ c.end_before-past.ensures (omega (arith, c.max.ensures))
 
 pub returns : goal.returns
-returns c = λ areas k same s. held_moves same s _ c.end_before-past.ensures (omega arith) (omega arith)
+returns c = λ areas k same s. held_moves same s _ c.end_before-past.ensures (omega (arith, c.max.ensures)) (omega (arith, c.max.ensures))

@@ -1,19 +1,17 @@
 -- `setup::start::plan_text` meets its contract: the text's refusal, or its regions planned in turn. Assumes nothing.
-use Rattle.setup.proofs.Starts.{read_refused, read_given, read_whole}
+use Rattle.std.proofs.Common.{rules, ◌≡◌, Err}
+use Rattle.setup.proofs.Starts.{read_refused, read_given}
 use lib.ListN.{length}
 use Rattle.setup.proofs.start.plan_text.Goals as goal
 
-pub returns-then-regions-ne0 : goal.returns-then-regions-ne0
-returns-then-regions-ne0 c =
+pub returns-in_err-read_regions : goal.returns-in_err-read_regions
+returns-in_err-read_regions c =
     let x = c.args in
-    read_refused x.bare.base.0 x.bare.frames x.bare.block_order (length x.bitmap.now) c.requires.bare.right x.text.now c.read_regions-regions.ensures _ c.if-regions-ne0.true c.refused_at.ensures
-
-pub plan_regions-requires : goal.plan_regions-requires
-plan_regions-requires c =
-    let x = c.args in
-    record { bare = c.requires.bare; marks_value = c.requires.marks_value; regions_len = read_whole x.bare.base.0 x.bare.frames x.bare.block_order (length x.bitmap.now) c.requires.bare.right x.text.now c.read_regions-regions.ensures c.if-regions-ne0.false }
+    let e = c.in_err-read_regions.field-0.0 in
+    let gives : c.from_residual.result ≡ Err e = search rules in
+    rw gives (read_refused x.bare.base.0 x.bare.frames x.bare.block_order (length x.bitmap.now) c.requires.right x.text.now e x.areas.now c.in_err-read_regions.ensures)
 
 pub returns : goal.returns
 returns c =
     let x = c.args in
-    read_given x.bare.base.0 x.bare.frames x.bare.block_order (length x.bitmap.now) c.requires.bare.right x.text.now c.read_regions-regions.ensures _ _ c.if-regions-ne0.false c.requires.bare.bare c.plan_regions.ensures
+    read_given x.bare.base.0 x.bare.frames x.bare.block_order (length x.bitmap.now) c.requires.right x.text.now c.in_ok-read_regions.field-0 _ _ c.in_ok-read_regions.ensures c.requires.bare c.plan_regions.ensures

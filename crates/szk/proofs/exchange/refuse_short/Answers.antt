@@ -1,8 +1,5 @@
 -- `szk::exchange::refuse_short` meets its contract: each return is one of the three cases. Assumes nothing.
 use native.Mathlib.Omega.{arith}
-use mathlib.Core.Path.{ap}
-use Rattle.answer.specs.declared.Answer.{Answer}
-use Rattle.szk.specs.Layout.{answer_numbers, over}
 use Rattle.szk.proofs.LentFacts.{no_room, short_record, long_enough}
 use Rattle.szk.proofs.exchange.refuse_short.Goals as goal
 
@@ -13,7 +10,7 @@ pub returns-then-numbers-lt-RECORD : goal.returns-then-numbers-lt-RECORD
 returns-then-numbers-lt-RECORD c =
     let numbers = c.args.numbers.now in
     let answer = c.args.answer.now in
-    let said = ap (λ (a : Answer). over (answer_numbers a) answer) c.refused.ensures in
+    let said = rw c.from.ensures at c.from-then-numbers-lt-RECORD.ensures in
     rw (c.store_answer.ensures, said) (short_record numbers answer (omega arith) (omega arith))
 
 pub returns : goal.returns

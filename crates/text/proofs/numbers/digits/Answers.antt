@@ -1,25 +1,16 @@
 -- `text::numbers::digits` meets its contract: where the digits end, the unit that stands there, and the product. Assumes nothing.
 use Rattle.text.proofs.Digits.{digits_read}
-use Rattle.text.proofs.Classes.{unit_some, unit_inside}
-use Rattle.text.specs.Numbers.{capped, digits}
-use Rattle.text.specs.Reading.{gives}
-use Rattle.std.specs.Prelude.{if◌then◌else◌}
-use Prim.Native.Nat.{◌+◌}
-use lib.Dec.{eqb}
-use mathlib.Core.Path.{◌≡◌, sym, ◌∙◌}
+use Rattle.text.proofs.Classes.{unit_inside}
+use mathlib.Core.Path.{sym, ◌∙◌}
 use native.Mathlib.Omega.{arith}
 use borrow.Author.Tests.{eq-eqb, ne_eqb}
 use Rattle.text.proofs.numbers.digits.Goals as goal
 
-pub scaled-v-requires : goal.scaled-v-requires
-scaled-v-requires c = omega (arith, unit_some c.byte_at.result)
-
 pub returns-then-unit-eq1 : goal.returns-then-unit-eq1
 returns-then-unit-eq1 c =
-    let read : capped (digits c.args.base c.args.text.now c.args.at) ≡
-    gives c.scaled-v.result
-    (if eqb c.unit_of-unit.result 1 then c.digits_end-end.result else c.digits_end-end.result + 1) = let a = c.args in
-    digits_read a.base a.text.now a.at c.digits_end-end.result c.unit_of-unit.result c.scaled-v.result (cc) (cc) (cc) in
+    let a = c.args in
+    let read = digits_read a.base a.text.now a.at c.digits_end-end.result c.unit_of-unit.result c.digits_value.result c.saturating_mul.result c.capped-v.result
+    (cc) (cc) (cc) (cc) (cc) in
     sym (read ∙ rw (eq-eqb c.unit_of-unit.result 1 c.if-unit-eq1.true))
 
 pub overflow_add-result : goal.overflow_add-result
@@ -30,8 +21,7 @@ overflow_add-result c =
 
 pub returns : goal.returns
 returns c =
-    let read : capped (digits c.args.base c.args.text.now c.args.at) ≡
-    gives c.scaled-v.result
-    (if eqb c.unit_of-unit.result 1 then c.digits_end-end.result else c.digits_end-end.result + 1) = let a = c.args in
-    digits_read a.base a.text.now a.at c.digits_end-end.result c.unit_of-unit.result c.scaled-v.result (cc) (cc) (cc) in
+    let a = c.args in
+    let read = digits_read a.base a.text.now a.at c.digits_end-end.result c.unit_of-unit.result c.digits_value.result c.saturating_mul.result c.capped-v.result
+    (cc) (cc) (cc) (cc) (cc) in
     sym (read ∙ rw (ne_eqb c.unit_of-unit.result 1 c.if-unit-eq1.false))

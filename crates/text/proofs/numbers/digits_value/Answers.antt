@@ -4,17 +4,11 @@ use Rattle.text.proofs.Classes.{digit_most}
 use Rattle.text.proofs.Capping.{cap_most, value_next, value_end}
 use Rattle.text.specs.Bytes.{byte_at, digit_of}
 use Rattle.text.specs.Numbers.{cap}
-use mathlib.Core.Path.{◌≡◌, refl, sym, ◌∙◌}
+use mathlib.Core.Path.{◌≡◌, sym, ◌∙◌}
 use native.Mathlib.Omega.{arith}
 use native.Mathlib.Nat.{mul-le-mul}
 use Prim.Native.Nat.{◌+◌, ◌*◌}
 use Rattle.text.proofs.numbers.digits_value.Goals as goal
-
-pub loop-i-init : goal.loop-i-init
-loop-i-init c = (omega arith, refl)
-
-pub overflow_mul-v : goal.overflow_mul-v
-overflow_mul-v c = omega (arith, mul-le-mul c.loop-i.invariant.0 c.requires.1)
 
 pub overflow_add-v : goal.overflow_add-v
 overflow_add-v c =

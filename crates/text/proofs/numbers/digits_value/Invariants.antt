@@ -7,6 +7,3 @@ use Rattle.text.proofs.numbers.digits_value.Given as goal
 
 abbrev pub invariant-loop-i : goal.invariant-loop-i
 invariant-loop-i l = (l.v ≤ most_bytes + 1) × (cap (digits_value l.base l.text l.at (l.end - l.at) 0) ≡ cap (digits_value l.base l.text l.i (l.end - l.i) l.v))
-
-abbrev pub decreases-loop-i : goal.decreases-loop-i
-decreases-loop-i l = l.end - l.i

@@ -1,8 +1,0 @@
--- `records::boot` meets its contract: each field is what `number` reads at its offset. Assumes nothing.
-use native.Mathlib.Nat.{add-zero}
-use Rattle.records.specs.Records.{body_at, body_of, bodies, numbers}
-use Rattle.records.proofs.boot.Goals as goal
-
-pub returns : goal.returns
-unfolding body_at body_of bodies numbers
-returns c = cc (add-zero c.args.at)
