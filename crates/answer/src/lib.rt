@@ -39,7 +39,8 @@ impl From<Refusal> for Refused {
     }
 }
 
-// What the clerk sees: the refusal's number, or 0 where the call is done, and two numbers more.
+// What the clerk sees: the refusal's number, or 0 where the call is done, and two numbers more. The definitions of the rules are over these numbers,
+// and a caller in C gets them.
 #[derive(Clone, Copy, Debug, PartialEq, Eq)]
 pub struct Answer {
     pub refusal: u64,

@@ -20,18 +20,19 @@ fn mask(low: usize, count: usize) -> u64
     (u64::MAX >> (64 - count)) << low
 }
 
-// The word with those bits set, or clear.
-fn changed(w: u64, low: usize, count: usize, set: bool) -> u64
+// The word with those bits set, or clear, as `bit` says.
+fn changed(w: u64, low: usize, count: usize, bit: bool) -> u64
     requires { (0 < count) × (low + count ≤ 64) }
-    ensures { result ≡ change_in (put_in set) w low count }
+    ensures { result ≡ change_in (put_in bit) w low count }
 {
-    if set {
+    if bit {
         return w | mask(low, count);
     }
     w & !mask(low, count)
 }
 
-// Sets the `count` bits from bit `from` on, of the bitmap that begins at word `start`, or clears them, as `bit` says.
+// Sets the `count` bits from bit `from` on, of the bitmap that begins at word `start`, or clears them, as `bit` says, which
+// is what is put, and chooses no step.
 pub fn put_run(words: &mut [u64], start: usize, from: usize, count: usize, bit: bool)
     ensures { words.new ≡ change_bits (put_in bit) words.old start from count }
 {

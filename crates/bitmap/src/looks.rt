@@ -28,7 +28,8 @@ struct Seen {
     looks: usize,
 }
 
-// What a step looks for: a set bit; or, of the bits that `starts` has set in each word, one at which a run of so many clear ones could begin.
+// What a step looks for: a set bit; or, of the bits that `starts` has set in each word, one at which a run of so many clear ones could begin. It is
+// an enum that one function takes, which is inlined, and no trait, so that each function on the way to a word is written once, which a test reads.
 #[derive(Clone, Copy)]
 enum Sought {
     Set,

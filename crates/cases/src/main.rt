@@ -41,7 +41,8 @@ struct Tally {
     failed: u64,
 }
 
-// Reads until the buffer is full or there is nothing more: a read gives any part of what is asked. Where one fails there is nothing.
+// Reads until the buffer is full or there is nothing more: a read gives any part of what is asked. Where one fails there is nothing. It reads
+// into a buffer, since there is no heap for what would read to the end.
 fn read_full(file: &mut impl Read, buffer: &mut [u8]) -> usize
     ensures { result ≤ length buffer.old }
 {
@@ -57,7 +58,7 @@ fn read_full(file: &mut impl Read, buffer: &mut [u8]) -> usize
 }
 
 // Reads a file to its end, and answers how long it is. None for one that cannot be opened, as one whose path is no text, or that fills the
-// buffer: nothing is played in part.
+// buffer: nothing is played in part. It is the size alone, since the caller keeps the buffer.
 fn load(rt: &impl Files, path: &[u8], buffer: &mut [u8]) -> Option<usize>
     ensures { IfSome result (λ size. size < length buffer.old) }
 {
@@ -93,6 +94,7 @@ fn load_given(rt: &impl Files, name: &[u8], way: Way, buffer: &mut [u8]) -> Opti
 }
 
 // The last line, by the reason that the records stopped. An output that is full has none.
+#[tactic(auto, using(text::proofs::Within::writer_within))]
 fn put_last(out: &mut Writer, p: Progress, why: Stop)
     requires { Ends out.old }
     ensures { Writes out.old out.new }
@@ -227,7 +229,7 @@ fn next_line(list: &[u8]) -> Option<(&[u8], &[u8])>
     }
 }
 
-// One case more.
+// One case more, and whether it passed, which is what is counted.
 fn counted(t: Tally, passed: bool) -> Tally
     requires { Counted (most_file - 1) t }
     ensures { (result.cases ≡ t.cases + 1) × (result.failed ≤ t.failed + 1) }

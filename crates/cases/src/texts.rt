@@ -15,6 +15,7 @@ use text::writing::Writer;
 const FRAMES: usize = 32;
 
 // A word and three numbers, with a space before each.
+#[tactic(auto, using(text::proofs::Within::writer_within))]
 fn put_three(out: &mut Writer, word: &[u8], numbers: [u64; 3])
     requires { Ends out.old }
     ensures { Writes out.old out.new }
@@ -79,6 +80,7 @@ fn put_boot(out: &mut Writer, tables: &mut LentTables, text: &[u8])
 }
 
 // A line for a text.
+#[tactic(auto, using(text::proofs::Within::writer_within))]
 fn put_text(out: &mut Writer, tables: &mut LentTables, text: &[u8])
     requires { Ends out.old }
     ensures { Writes out.old out.new × SameSlices tables.old tables.new }

@@ -8,7 +8,7 @@ ghost use Rattle.rules.specs.Record.{area_at};
 ghost use Rattle.rules.specs.Limits.{most_end, most_block_order, most_align_order};
 ghost use Rattle.rules.specs.Does.{record_in};
 ghost use Rattle.rules.specs.DeviceCalls.{bad_device, is_unknown, outside_memory, device_checks, outside_area, off_bit, release_checks, grant_checks};
-ghost use Rattle.device_calls.specs.Steps.Refusals.{Judged};
+ghost use Rattle.device_calls.specs.Steps.Refusals.{Decides};
 
 use crate::units::block_of;
 use crate::{GrantRequest, ReleaseRequest};
@@ -17,7 +17,7 @@ use frames::{Area, Frame, Kind, LentTables, Place, are_later, area_at, place_of}
 use rules::{LentRecord, Memory, Record};
 use shape::shape_right;
 
-// A mark of a grant's first frame or of a later one.
+// A mark of a grant's first frame or of a later one. `frames` has it as a test of its scans, which stays inside it.
 fn is_granted(mark: u32) -> bool
     ensures { result ≡ is_granted mark }
 {
@@ -36,7 +36,7 @@ fn is_not_owner(owners: &[u32], page: Place, device: u64) -> bool
     requires { page.0 < length owners.now }
     ensures { result ≡ not (eqb (get_or owners.now page.0 0) device) }
 {
-    owners[page.0] as u64 != device
+    u64::from(owners[page.0]) != device
 }
 
 // The frame is none of memory.
@@ -62,7 +62,7 @@ pub(crate) fn check_device(
     frame: Frame,
     device: u64,
 ) -> Result<(), Refusal>
-    ensures { Judged (device_checks (record_in lent.entry) frame device (tables_in tables.now)) result }
+    ensures { Decides (device_checks (record_in lent.entry) frame device (tables_in tables.now)) result }
 {
     if !shape_right(lent, tables) {
         return Err(Refusal::WrongShape);
@@ -80,7 +80,7 @@ pub(crate) fn check_device(
     Ok(())
 }
 
-// A range of frames is not inside an area. An end may lie past the largest number, so none is computed.
+// A range of frames is not inside an area. An end may lie past the largest number, so none is computed; the first test guards the difference.
 fn is_outside_area(a: Area, frame: Frame, count: u64) -> bool
     ensures { result ≡ outside_area a frame count }
 {
@@ -121,7 +121,8 @@ fn is_other_grant(marks: &[u32], page: Place, count: u64) -> bool
     requires { (page.0 < length marks.now) × (0 < count) }
     ensures { result ≡ (not (eqb (field_of (get_or marks.now page.0 0)) count) || not (every (marked (has_kind later) marks.now) (suc page.0) (count - 1))) }
 {
-    (marks[page.0] / 8) as u64 != count || !are_later(marks, Place(page.0 + 1), count - 1)
+    u64::from(Kind::field_of(marks[page.0])) != count
+        || !are_later(marks, Place(page.0 + 1), count - 1)
 }
 
 // Whether a grant may be released.
@@ -130,7 +131,7 @@ pub(crate) fn check_release(
     tables: &LentTables,
     release: ReleaseRequest,
 ) -> Result<(), Refusal>
-    ensures { Judged (release_checks (record_in lent.entry) release.area release.frame release.count release.device (tables_in tables.now)) result }
+    ensures { Decides (release_checks (record_in lent.entry) release.area release.frame release.count release.device (tables_in tables.now)) result }
 {
     if !shape_right(lent, tables) {
         return Err(Refusal::WrongShape);
@@ -168,7 +169,7 @@ pub(crate) fn check_grant(
     tables: &LentTables,
     request: GrantRequest,
 ) -> Result<(), Refusal>
-    ensures { Judged (take 2 (grant_checks (record_in lent.entry) request.area request.count request.align request.device (tables_in tables.now))) result }
+    ensures { Decides (take 2 (grant_checks (record_in lent.entry) request.area request.count request.align request.device (tables_in tables.now))) result }
 {
     if !shape_right(lent, tables) {
         return Err(Refusal::WrongShape);

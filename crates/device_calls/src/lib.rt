@@ -19,13 +19,16 @@ mod units;
 use answer::{Numbers, Refusal};
 use bitmap::put_run;
 use checks::{check_device, check_grant, check_release};
-use frames::{Bit, Frame, LentTables, area_at, count_movable, fill, has_free_outside, place_of};
+use frames::{
+    Bit, Frame, Kind, LentTables, area_at, count_movable, fill, has_free_outside, place_of,
+};
 use moves::{mark_run, move_out};
 use rules::LentRecord;
 use runs::find_run;
 use units::{bit_of_frame, bitmap_start, frame_of_bit};
 
 // What a grant asks for: an area, a count of frames, the order that its first frame is a multiple of, and the device that gets them.
+// The calls take them one by one, as the methods that README names do.
 #[derive(Clone, Copy)]
 pub(crate) struct GrantRequest {
     pub(crate) area: u64,
@@ -96,7 +99,7 @@ fn free_run(lent: LentRecord, tables: &mut LentTables, release: ReleaseRequest)
     let page = place_of(lent.memory.base, release.frame);
     let first = bit_of_frame(a, release.frame);
     let bits = a.bits_for(count) as usize;
-    fill(tables.marks, page.0, count, 0);
+    fill(tables.marks, page.0, count, Kind::Free.mark(0));
     fill(tables.words, page.0, count, 0);
     put_run(tables.bitmap, start, first.0, bits, false);
     fill(tables.owners, page.0, count, 0);

@@ -14,7 +14,7 @@ use frames::{Kind, LentTables, OrderedAreas, Place, Seeking, fill};
 use rules::LentRecord;
 
 // The lowest place of a range that has a movable page; the range's end where there is none, as in the scans of `frames`: the loop over the pages
-// ends there.
+// ends there. The scans of `frames` stay inside it: they ask for a range within the marks, and what another crate can call asks for nothing.
 fn next_movable(tables: &LentTables, from: Place, end: Place) -> Place
     requires { (from.0 ≤ end.0) × (end.0 ≤ length tables.now.marks.now) }
     ensures { result.0 ≡ lowest_from (marked (has_kind movable) tables.now.marks.now) from.0 (end.0 - from.0) }
@@ -34,7 +34,8 @@ fn next_target(areas: &OrderedAreas, tables: &LentTables, held: usize, last: See
     areas.next_target(tables.marks, held, last)
 }
 
-// The page at a place goes to another, with its mark and word, where the tables reach that.
+// The page at a place goes to another, with its mark and word, where the tables reach that. That the place is in the tables joins the two, so
+// neither's type can hold it.
 fn move_page(tables: &mut LentTables, page: Place, to: Place)
     requires { (page.0 < length tables.old.marks.now) × (page.0 < length tables.old.words.now) }
     ensures same { SameSlices tables.old tables.new }
@@ -44,7 +45,7 @@ fn move_page(tables: &mut LentTables, page: Place, to: Place)
     let word = tables.words[page.0];
     fill(tables.marks, to.0, 1, mark);
     fill(tables.words, to.0, 1, word);
-    tables.marks[page.0] = 0;
+    tables.marks[page.0] = Kind::Free.mark(0);
     tables.words[page.0] = 0;
 }
 

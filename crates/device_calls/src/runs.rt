@@ -14,7 +14,8 @@ use frames::{Area, Bit, Frame, LentTables, area_at, first_stuck, place_of};
 use rules::LentRecord;
 
 // What is searched for, and where: the marks, the frame at which they begin, the area with its bitmap, the run's bits and frames, the last bit
-// that leaves it room, how far apart the bits stand that it may begin at (2^order), and a word that has those set.
+// that leaves it room, how far apart the bits stand that it may begin at (2^order), and a word that has those set. What its steps tell one another
+// are plain numbers of bits, which are added and compared.
 #[derive(Clone, Copy)]
 pub(crate) struct Search<'a> {
     pub(crate) marks: &'a [u32],
@@ -37,7 +38,8 @@ pub(crate) struct Tried {
 }
 
 impl Search<'_> {
-    // How many bits from a bit on are ruled out by the frames of the run at it, where one of them is neither free nor movable.
+    // How many bits from a bit on are ruled out by the frames of the run at it, where one of them is neither free nor movable. What `TriesAt` says
+    // joins the search and a bit, so neither's type can hold it.
     fn frames_rule_out(&self, bit: Bit) -> Option<usize>
         requires { TriesAt self.now bit }
         ensures { FramesRuleOut self.now bit.0 result }

@@ -4,7 +4,6 @@
 --     fill_none, fill_out                nothing to fill; a range past the end
 --     fill_next                          a loop at i that goes up to n
 use Prim.Native.Nat.{ℕ, zero, suc, ◌+◌, ◌-◌, ◌≤◌, ◌<◌, min}
-use native.Mathlib.Nat.{le_refl}
 use native.Mathlib.Omega.{arith}
 use native.Mathlib.Numerals.{add-one}
 use mathlib.Core.Path.{◌≡◌, refl, sym, ap, ◌∙◌}
@@ -68,11 +67,6 @@ pub record Filling {A : Type 0} (l₀ : List A) (from count : ℕ) (v : A) (l : 
   pub low : from ≤ i
   pub same : length l ≡ length l₀
   pub rest : fill l₀ from count v ≡ fill l i ((from + count) - i) v
-
-pub filling_start : {A : Type 0} (l : List A) (from count : ℕ) (v : A) → Filling l from count v l from
-filling_start l from count v =
-    let e : count ≡ (from + count) - from = omega arith in
-    record { low = le_refl from; same = refl; rest = ap (λ (d : ℕ). fill l from d v) e }
 
 pub filling_turn : {A : Type 0} {l₀ : List A} {from count : ℕ} {v : A} {l : List A} {i : ℕ} → Filling l₀ from count v l i → i < min (from + count) (length l₀) → Filling l₀ from count v (set l i v) (i + 1)
 filling_turn {A} {l₀} {from} {count} {v} {l} {i} f h =

@@ -1,19 +1,24 @@
 -- What holds at the head of a loop that looks through the places from `from` up to `end`, and stands at i. Assumes nothing.
 --     Seeking     a search for the lowest place that passes: what is left to search is the range from i on
---     Asking      whether some place passes, with no exit: whether one of the j from `from` on does
---     Passing     a check that each place passes: each place before i does
+--     Asking      whether some place may pass, with no exit: where none was hinted at, none of the j from `from` on does
 --     Taking      the places that pass are taken off a number, as long as it is not 0
 --     Counting    a count of the places that pass: `found` of them before i
-use Prim.Native.Nat.{ℕ, ◌+◌, ◌-◌, ◌≤◌, ◌<◌}
+-- And pass_list: a check that each place passes, made on the list of them.
+use Prim.Native.Nat.{ℕ, zero, suc, ◌+◌, ◌-◌, ◌≤◌, ◌<◌}
 use native.Mathlib.Nat.{le_refl}
 use native.Mathlib.Omega.{arith}
 use mathlib.Core.Path.{◌≡◌, refl, sym, ap, subst, ◌∙◌}
 use mathlib.Core.Bool.{Bool, true, false, ◌||◌}
-use Rattle.std.specs.Prelude.{if◌then◌else◌}
+use Rattle.std.specs.Prelude.{Option, Some, None, if◌then◌else◌}
+use Rattle.std.specs.Option.{is_some}
+use Rattle.std.specs.List.{list_all, range_with_len}
 use Rattle.search.specs.Search.{lowest_from, some, every, how_many}
-use Rattle.search.proofs.Bools.{below_or_not}
+use Rattle.frames.specs.declared.Place.{Place}
+use Rattle.frames.specs.Units.{place, place_below}
+use Rattle.frames.proofs.PlaceFacts.{some_below, none_below}
+use Rattle.search.proofs.Bools.{by_cases, below_or_not, clash, not_flips}
 use Rattle.search.proofs.Lowest.{Least, lowest_least, lowest_here, lowest_skip, lowest_next, lowest_end}
-use Rattle.search.proofs.Ranges.{some_none, some_next, all_every, every_miss}
+use Rattle.search.proofs.Ranges.{some_none, some_next, every_all, all_every, every_miss, every_no, every_none}
 use Rattle.search.proofs.Counts.{many_none, many_next, many_split, many_zero, many_le}
 
 pub record Seeking (p : ℕ → Bool) (from end i : ℕ) : Type 0 where
@@ -36,53 +41,67 @@ module _ {p : ℕ → Bool} {from end i : ℕ} (s : Seeking p from end i) where
   pub seek_end : end ≤ i → i ≡ lowest_from p from (end - from)
   seek_end h = sym (s.rest ∙ lowest_end p i end h)
 
--- A part of the range, from i up to j, is searched at once: g is what that search finds.
-module _ {p : ℕ → Bool} {from end i : ℕ} (s : Seeking p from end i) (j g : ℕ) (a : i ≤ j) (b : j ≤ end) (e : g ≡ lowest_from p i (j - i)) where
-  part_least : Least p i (j - i) g
-  part_least = rw e (lowest_least p i (j - i))
+  pub seek_some : i < end → p i ≡ true → Some (place i) ≡ place_below (lowest_from p from (end - from)) end
+  seek_some h e = sym (some_below i end h) ∙ ap (λ (k : ℕ). place_below k end) (seek_hit h e)
 
-  pub part_hit : g < j → g ≡ lowest_from p from (end - from)
-  part_hit h =
-      let l = part_least in
-      seek_hit (seek_skip s g l.low (omega arith) l.miss) (omega arith) (l.hit (omega arith))
+  pub seek_none : end ≤ i → None ≡ place_below (lowest_from p from (end - from)) end
+  seek_none h = sym (none_below _ end (omega (arith, seek_end h)))
 
-  pub part_miss : j ≤ g → Seeking p from end j
-  part_miss h = seek_skip s j a b (λ k u v. part_least.miss k u (omega arith))
+-- A part of the range, from i up to j, is searched at once: r is what that search finds.
+module _ {p : ℕ → Bool} {from end i : ℕ} (s : Seeking p from end i) (j : ℕ) (a : i ≤ j) (b : j ≤ end) {r : Option Place} (e : r ≡ place_below (lowest_from p i (j - i)) j) where
+  abbrev found : ℕ
+  found = lowest_from p i (j - i)
+
+  least : Least p i (j - i) found
+  least = lowest_least p i (j - i)
+
+  pub part_some : is_some r ≡ true → r ≡ place_below (lowest_from p from (end - from)) end
+  part_some h =
+      below_or_not found j
+      (λ l.
+      let same : found ≡ lowest_from p from (end - from) =
+      seek_hit (seek_skip s found least.low (omega arith) least.miss) (omega arith) (least.hit (omega arith))
+      in
+      e ∙ some_below found j l ∙ sym (some_below found end (omega arith)) ∙ ap (λ (k : ℕ). place_below k end) same)
+      (λ l. clash (is_some r) h (ap is_some (e ∙ none_below found j l)))
+
+  pub part_none : is_some r ≡ false → Seeking p from end j
+  part_none h =
+      below_or_not found j (λ l. clash (is_some r) (ap is_some (e ∙ some_below found j l)) h)
+      (λ l. seek_skip s j a b (λ k u v. least.miss k u (omega arith)))
 
 pub record Asking (p : ℕ → Bool) (from : ℕ) (hit : Bool) (j : ℕ) : Type 0 where
-  pub asked : hit ≡ some p from j
+  pub none : hit ≡ false → some p from j ≡ false
 
 pub ask_start : {p : ℕ → Bool} {from : ℕ} → Asking p from false 0
-ask_start {p} {from} = record { asked = sym (some_none p from) }
+ask_start {p} {from} = record { none = λ e. some_none p from }
 
 module _ {p : ℕ → Bool} {from : ℕ} {hit : Bool} {j : ℕ} (s : Asking p from hit j) where
-  pub ask_turn : Asking p from (hit || p (from + j)) (j + 1)
-  ask_turn = record { asked = sym (some_next p from j ∙ ap (λ (b : Bool). b || p (from + j)) (sym s.asked)) }
-
-  pub ask_end : {d : ℕ} → j ≡ d → hit ≡ some p from d
-  ask_end e = s.asked ∙ ap (some p from) e
-
-pub record Passing (p : ℕ → Bool) (from i : ℕ) : Type 0 where
-  pub low : from ≤ i
-  pub all : (k : ℕ) → from ≤ k → k < i → p k ≡ true
-
-pub pass_start : {p : ℕ → Bool} (from : ℕ) → Passing p from from
-pass_start from = record { low = le_refl from; all = λ k a b. absurd (omega arith) }
-
-module _ {p : ℕ → Bool} {from i : ℕ} (s : Passing p from i) where
-  pub pass_turn : p i ≡ true → Passing p from (i + 1)
-  pass_turn e =
+  pub ask_turn : {may : Bool} → (may ≡ false → p (from + j) ≡ false) → Asking p from (hit || may) (j + 1)
+  ask_turn {may} h =
       record {
-        low = omega (arith, s.low);
-        all = λ k a b. below_or_not k i (λ h. s.all k a h) (λ h. subst (λ (x : ℕ). p x ≡ true) (omega arith) e);
+        none = λ e.
+            by_cases hit (λ t. clash (hit || may) (rw t refl) e)
+            (λ f. rw (some_next p from j, s.none f, h (sym (ap (λ (b : Bool). b || may) f) ∙ e)) refl);
       }
 
-  pub pass_fail : (count : ℕ) → i < from + count → p i ≡ false → false ≡ every p from count
-  pass_fail count h e = sym (every_miss p from count i s.low h e)
-
-  -- what lies past i passes for another reason
-  pub pass_end : (count : ℕ) → ((k : ℕ) → i ≤ k → k < from + count → p k ≡ true) → true ≡ every p from count
-  pass_end count more = sym (all_every p from count (λ k a b. below_or_not k i (λ h. s.all k a h) (λ h. more k h b)))
+-- each place of a range passes just where each of the list of them does
+pub pass_list : (p : ℕ → Bool) (from d : ℕ) → list_all p (range_with_len from d) ≡ every p from d
+pass_list p from zero = sym (every_none p from)
+pass_list p from (suc d) =
+    by_cases (p from)
+    (λ t.
+    rw (t, pass_list p (from + 1) d)
+    (by_cases (every p (from + 1) d)
+    (λ e.
+    e ∙
+    sym
+    (all_every p from (suc d)
+    (λ k a b. below_or_not from k (λ h. every_all p (from + 1) d e k (omega arith) (omega arith)) (λ h. subst (λ (x : ℕ). p x ≡ true) (omega arith) t))))
+    (λ e.
+    let miss = every_no p (from + 1) d e in
+    e ∙ sym (every_miss p from (suc d) miss.at (omega (arith, miss.low)) (omega (arith, miss.high)) (not_flips (p miss.at) miss.hit)))))
+    (λ f. rw f (sym (every_miss p from (suc d) from (omega arith) (omega arith) f)))
 
 pub record Counting (p : ℕ → Bool) (from found i : ℕ) : Type 0 where
   pub low : from ≤ i

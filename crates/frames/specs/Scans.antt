@@ -1,16 +1,13 @@
 -- The tests that a scan of the marks makes at each place.
-use Rattle.std.specs.Prelude.{ℕ, ◌+◌, Bool, not, ◌&&◌, List, eqb, get_or}
+use Rattle.std.specs.Prelude.{ℕ, ◌+◌, Bool, not, ◌&&◌, List, get_or}
 use Rattle.frames.specs.declared.Frame.{Frame}
 use Rattle.frames.specs.Units.{frame}
-use Rattle.frames.specs.Marks.{field_of, has_kind, free}
+use Rattle.frames.specs.Marks.{has_kind, free}
 use Rattle.frames.specs.Areas.{in_areas}
 
 -- a test of the mark at a place; past the end a mark reads 0
 abbrev pub marked : (ℕ → Bool) → List ℕ → ℕ → Bool
 marked test marks i = test (get_or marks i 0)
-
-abbrev pub has_field : ℕ → ℕ → Bool
-has_field field mark = eqb (field_of mark) field
 
 -- the place is in one of the first n areas, where the table begins at physical frame `base`
 abbrev pub in_areas_at : Frame → List ℕ → ℕ → ℕ → Bool

@@ -3,13 +3,13 @@
 ghost use Rattle.std.specs.Prelude.{◌<◌, ◌-◌, min, ◌≡◌, get_or, set};
 ghost use Rattle.frames.specs.Units.{most_number};
 ghost use Rattle.frames.specs.Orders.{in_use};
-ghost use Rattle.frames.specs.Areas.{ceiling, end_of, bit_count, word_count, first_word, bits_for, area_in, set_area};
+ghost use Rattle.frames.specs.Areas.{end_of, bit_count, word_count, first_word, bits_for, area_in, set_area};
 
 use crate::units::place_of;
 use crate::{Area, Frame, Place};
 
 impl Area {
-    // The bits of its bitmap.
+    // The bits of its bitmap. `checked_shr` takes a u32, which the order may not fit.
     pub fn bits(self) -> u64
         ensures { result ≡ bit_count self }
     {
@@ -55,26 +55,26 @@ fn number_at(areas: &[u64], at: usize) -> u64
     areas.get(at).copied().unwrap_or(0)
 }
 
-// Area i of a record's areas; all zeros past their end.
+// Area i of a record's areas; all zeros past their end. It is no option: areas are lent at any length, and the rules read zeros past their end
+// (`area_in`).
 pub fn area_at(areas: &[u64], i: usize) -> Area
     ensures { result ≡ area_in areas.now i }
 {
-    // So far out its place among the numbers might wrap.
-    if areas.len() <= i {
+    // One test for its three numbers, where all are there: a walk over areas asks for each of them many times.
+    if i < areas.len() / Area::NUMBERS {
+        let at = Area::NUMBERS * i;
         return Area {
-            base: Frame(0),
-            count: 0,
-            order_per_bit: 0,
+            base: Frame(areas[at]),
+            count: areas[at + 1],
+            order_per_bit: areas[at + 2],
         };
     }
-    let at = Area::NUMBERS * i;
-    let base = number_at(areas, at);
-    let count = number_at(areas, at + 1);
-    let order_per_bit = number_at(areas, at + 2);
+    // Far past the end its place among the numbers might wrap.
+    let at = Area::NUMBERS * i.min(areas.len());
     Area {
-        base: Frame(base),
-        count,
-        order_per_bit,
+        base: Frame(number_at(areas, at)),
+        count: number_at(areas, at + 1),
+        order_per_bit: number_at(areas, at + 2),
     }
 }
 

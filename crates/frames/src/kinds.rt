@@ -1,9 +1,10 @@
 // The kinds of marks.
 ghost use Rattle.std.specs.Prelude.{◌<◌, ◌^◌, ◌≡◌};
-ghost use Rattle.frames.specs.Marks.{has_kind, mark_of, kind_number};
+ghost use Rattle.frames.specs.Marks.{has_kind, field_of, mark_of, kind_number};
 
 // What a frame holds, as its mark says: nothing, a page, which is movable, pinned or fixed, or a frame of a grant, its first or a later one.
-// A mark is 8 times its field and its kind's number; the numbers 6 and 7 are unused.
+// A mark is 8 times its field and its kind's number; the numbers 6 and 7 are unused. It is one number, and no struct of the two, since a caller in
+// C lends the marks so.
 #[derive(Clone, Copy, Debug, PartialEq, Eq)]
 pub enum Kind {
     Free = 0,
@@ -23,6 +24,13 @@ impl Kind {
         ensures { result ≡ has_kind (kind_number self) mark }
     {
         mark % Self::NUMBERS == self as u32
+    }
+
+    // The field of a mark, whatever kind it has.
+    pub fn field_of(mark: u32) -> u32
+        ensures { result ≡ field_of mark }
+    {
+        mark / Self::NUMBERS
     }
 
     // The mark of a field and this kind. A longer field has no mark.

@@ -21,19 +21,21 @@ pub use order::OrderedAreas;
 pub use targets::{Seeking, has_free_outside};
 pub use units::{frame_at, place_of};
 
-// A physical frame number.
+// A physical frame number. Frames, places and bits are compared by their numbers, as the definitions compare them.
 #[derive(Clone, Copy)]
 pub struct Frame(pub u64);
 
 // A place in the tables: the physical frame less the machine's first.
-#[derive(Clone, Copy)]
+#[derive(Clone, Copy, Default)]
 pub struct Place(pub usize);
 
 // A bit number in an area's bitmap, from 0.
 #[derive(Clone, Copy)]
 pub struct Bit(pub usize);
 
-// The tables that a call is lent: a mark and a content word for each frame, the bitmap's words, and for each frame the device that owns it.
+// The tables that a call is lent: a mark and a content word for each frame, the bitmap's words, and for each frame the device that owns it. They
+// are four slices, and no slice of a struct for each frame, since a caller in C lends them so; what is in them is numbers for the same reason: a
+// mark that is 0 is free, and an owner that is 0 is none.
 #[derive(Drop)]
 pub struct LentTables<'a> {
     pub marks: &'a mut [u32],

@@ -1,11 +1,10 @@
 // What is sought among the marks, and what is counted.
-ghost use Rattle.std.specs.Prelude.{ℕ, ◌≤◌, ◌+◌, ◌-◌, min, ◌≡◌, not, length};
+ghost use Rattle.std.specs.Prelude.{◌≤◌, ◌+◌, ◌-◌, min, ◌≡◌, not, length};
 ghost use Rattle.search.specs.Search.{lowest, lowest_from, every, how_many};
 ghost use Rattle.frames.specs.Units.{place_below};
 ghost use Rattle.frames.specs.Marks.{has_kind, kind_number, is_page_of, can_leave, is_granted, free, movable, later};
-ghost use Rattle.frames.specs.Scans.{marked, has_field, is_free_ordinary};
+ghost use Rattle.frames.specs.Scans.{marked, is_free_ordinary};
 ghost use Rattle.frames.specs.Areas.{most_areas};
-ghost use Rattle.search.proofs.Bools.{and_right_false};
 
 use crate::fills::range_end;
 use crate::order::OrderedAreas;
@@ -21,7 +20,9 @@ const FEW: usize = 8;
 // After how many marks a count asks whether it has counted enough.
 const COUNTED: usize = 64;
 
-// Of a kind's bits, the upper two: those that neither a free nor a movable mark has, and of which a grant's frames have the upper alone.
+// Of a kind's bits, the upper two: those that neither a free nor a movable mark has, and of which a grant's frames have the upper alone. One mask asks
+// for several kinds at once, where `Kind::is_of` asks for each. They are two constants, since which bits tell stuck marks from others and which tell
+// a grant's are two facts, equal by the kinds' numbers alone.
 const STUCK_BITS: u32 = 6;
 
 const GRANT_BITS: u32 = 6;
@@ -30,39 +31,27 @@ const GRANT_BITS: u32 = 6;
 impl MarkTest for Kind {
     ghost test = { λ kind. has_kind (kind_number kind) };
 
-    ghost hint = { λ kind. has_kind (kind_number kind) };
-
-    ghost unless_hinted = { λ _ _ e. e };
-
     fn is_met(&self, mark: u32) -> bool {
-        self.is_of(mark)
-    }
-
-    fn is_hinted(&self, mark: u32) -> bool {
         self.is_of(mark)
     }
 }
 
-// A mark is a page of the name.
+// A mark is a page of the name. The name alone hints at it, whatever the mark's kind.
 #[derive(Clone, Copy)]
 struct PageOf(u32);
 
 impl MarkTest for PageOf {
     ghost test = { λ page. is_page_of page.0 };
 
-    ghost hint = { λ page. has_field page.0 };
-
-    ghost unless_hinted = { λ page mark. and_right_false _ (has_field page.0 mark) };
-
     fn is_met(&self, mark: u32) -> bool {
         let is_page = Kind::Movable.is_of(mark)
             || Kind::Pinned.is_of(mark)
             || Kind::Fixed.is_of(mark);
-        is_page && self.is_hinted(mark)
+        is_page && Kind::field_of(mark) == self.0
     }
 
     fn is_hinted(&self, mark: u32) -> bool {
-        mark / 8 == self.0
+        Kind::field_of(mark) == self.0
     }
 }
 
@@ -73,16 +62,8 @@ struct Stuck;
 impl MarkTest for Stuck {
     ghost test = { λ _ mark. not (can_leave mark) };
 
-    ghost hint = { λ _ mark. not (can_leave mark) };
-
-    ghost unless_hinted = { λ _ _ e. e };
-
     fn is_met(&self, mark: u32) -> bool {
         mark & STUCK_BITS != 0
-    }
-
-    fn is_hinted(&self, mark: u32) -> bool {
-        self.is_met(mark)
     }
 }
 
@@ -93,16 +74,8 @@ struct Granted;
 impl MarkTest for Granted {
     ghost test = { λ _. is_granted };
 
-    ghost hint = { λ _. is_granted };
-
-    ghost unless_hinted = { λ _ _ e. e };
-
     fn is_met(&self, mark: u32) -> bool {
         mark & GRANT_BITS == Kind::Head as u32
-    }
-
-    fn is_hinted(&self, mark: u32) -> bool {
-        self.is_met(mark)
     }
 }
 
@@ -113,16 +86,14 @@ pub fn find_page(marks: &[u32], name: u64) -> Option<Place>
     if MOST_FIELD < name {
         return None;
     }
-    let len = marks.len();
-    first_met(marks, &PageOf(name as u32), Place(0), Place(len)).below(len)
+    first_met(marks, &PageOf(name as u32), Place(0), Place(marks.len()))
 }
 
 // The lowest free place at all.
 pub fn find_free(marks: &[u32]) -> Option<Place>
     ensures { result ≡ place_below (lowest (marked (has_kind free) marks.now) (length marks.now)) (length marks.now) }
 {
-    let len = marks.len();
-    first_met(marks, &Kind::Free, Place(0), Place(len)).below(len)
+    first_met(marks, &Kind::Free, Place(0), Place(marks.len()))
 }
 
 // The lowest free place that is in none of the first `declared` areas, as far as a record can have them.
@@ -133,19 +104,18 @@ pub fn find_free_ordinary(marks: &[u32], base: Frame, areas: &[u64], declared: u
     stretch.from.below(marks.len())
 }
 
-// The lowest place of a range that is neither free nor movable; the range's end where there is none. Where such places stand close together
-// one is among the first few, so no block is asked before those have been looked at.
-fn stuck_in(marks: &[u32], from: Place, end: Place) -> Place
+// The lowest place of a range that is neither free nor movable. Where such places stand close together one is among the first few, so no block
+// is asked before those have been looked at.
+fn stuck_in(marks: &[u32], from: Place, end: Place) -> Option<Place>
     requires { (from.0 ≤ end.0) × (end.0 ≤ length marks.now) }
-    ensures { result.0 ≡ lowest_from (marked (λ mark. not (can_leave mark)) marks.now) from.0 (end.0 - from.0) }
+    ensures { result ≡ place_below (lowest_from (marked (λ mark. not (can_leave mark)) marks.now) from.0 (end.0 - from.0)) end.0 }
 {
     if end.0 - from.0 < BLOCK {
         return one_by_one(marks, &Stuck, from, end);
     }
-    let few = Place(from.0 + FEW);
-    let at = one_by_one(marks, &Stuck, from, few);
-    if at.0 < few.0 {
-        return at;
+    let found = one_by_one(marks, &Stuck, from, Place(from.0 + FEW));
+    if found.is_some() {
+        return found;
     }
     first_met(marks, &Stuck, from, end)
 }
@@ -159,11 +129,10 @@ pub fn first_stuck(marks: &[u32], from: Place, count: u64) -> u64
     if end <= first {
         return count;
     }
-    let at = stuck_in(marks, from, Place(end));
-    if at.0 < end {
-        return (at.0 - first) as u64;
+    match stuck_in(marks, from, Place(end)) {
+        Some(at) => (at.0 - first) as u64,
+        None => count,
     }
-    count
 }
 
 // Each of the `count` places from `from` on is a later frame of a grant. Past the end of the marks there is none.
@@ -174,12 +143,7 @@ pub fn are_later(marks: &[u32], from: Place, count: u64) -> bool
     if (end.saturating_sub(from.0) as u64) < count {
         return false;
     }
-    for i in from.0..end {
-        if !Kind::Later.is_of(marks[i]) {
-            return false;
-        }
-    }
-    true
+    (from.0..end).all(|i| Kind::Later.is_of(marks[i]))
 }
 
 // How many of the `count` places from `from` on are movable.

@@ -16,14 +16,14 @@ use crate::walk::Stretch;
 use crate::{Area, Frame, Kind, Place};
 
 // The last place found in the other areas, and which area of the order has it: those before it have no free place from there on.
-#[derive(Clone, Copy)]
+#[derive(Clone, Copy, Default)]
 pub(crate) struct Others {
     pub(crate) from: Place,
     pub(crate) next: usize,
 }
 
 // A search for one target after the other: the last that was found, and how far memory is passed, the ordinary places and the other areas.
-#[derive(Clone, Copy)]
+#[derive(Clone, Copy, Default)]
 pub struct Seeking {
     pub(crate) to: Place,
     pub(crate) ordinary: Stretch,
@@ -35,14 +35,7 @@ impl Seeking {
     pub fn none() -> Self
         ensures { result ≡ record { to = place 0; ordinary = record { from = place 0; end = place 0; next = 0 }; others = record { from = place 0; next = 0 } } }
     {
-        Self {
-            to: Place(0),
-            ordinary: Stretch::none(),
-            others: Others {
-                from: Place(0),
-                next: 0,
-            },
-        }
+        Self::default()
     }
 
     // Where the page goes.
@@ -63,11 +56,7 @@ fn free_in_area(marks: &[u32], base: Frame, area: Area, from: Place) -> Place
     if end.0 <= start.0 {
         return Place(len);
     }
-    let at = first_met(marks, &Kind::Free, start, end);
-    if at.0 < end.0 {
-        return at;
-    }
-    Place(len)
+    first_met(marks, &Kind::Free, start, end).unwrap_or(Place(len))
 }
 
 impl OrderedAreas<'_> {
@@ -81,24 +70,22 @@ impl OrderedAreas<'_> {
         free_in_area(marks, self.base, area_at(self.areas, i), from)
     }
 
-    // The lowest free place of the areas but `held` from the last one's place on: area after area in their order.
+    // The lowest free place of the areas but `held` from the last one's place on: area after area in their order. Where
+    // there is none it is the place after the last, and no option: the next search goes on from there.
     fn next_other(&self, marks: &[u32], held: usize, last: Others) -> Others
         ensures { NextOther marks.now self.now.base self.now.areas.now self.now.order held last result }
     {
         let len = marks.len();
         let from = last.from;
-        // Where the walk stops, `next` goes into the result: the next walk goes on with that area.
-        let mut next = last.next;
-        while next < self.order.count {
+        for next in last.next..self.order.count {
             let at = self.free_in_other(marks, self.order.nth(next), held, from);
             if at.0 < len {
                 return Others { from: at, next };
             }
-            next += 1;
         }
         Others {
             from: Place(len),
-            next,
+            next: self.order.count,
         }
     }
 

@@ -1,6 +1,5 @@
 // A walk over the ordinary places of memory: from one stretch of them to the next, past the areas in their order.
 ghost use Rattle.std.specs.Prelude.{◌<◌, ◌≡◌, get_or};
-ghost use Rattle.frames.specs.Units.{place};
 ghost use Rattle.frames.specs.Areas.{area_in};
 ghost use Rattle.frames.specs.Walk.{NextFree};
 ghost use Rattle.frames.specs.Steps.Stretches.{Within, WalksOn, FindsFree};
@@ -12,24 +11,11 @@ use crate::units::place_of;
 use crate::{Area, Kind, Place};
 
 // Some places in a row: the first, and the one after the last. The areas before `next`, in their order, end before them.
-#[derive(Clone, Copy)]
+#[derive(Clone, Copy, Default)]
 pub(crate) struct Stretch {
     pub(crate) from: Place,
     pub(crate) end: Place,
     pub(crate) next: usize,
-}
-
-impl Stretch {
-    // Before the first: no place.
-    pub(crate) fn none() -> Self
-        ensures { result ≡ record { from = place 0; end = place 0; next = 0 } }
-    {
-        Self {
-            from: Place(0),
-            end: Place(0),
-            next: 0,
-        }
-    }
 }
 
 impl OrderedAreas<'_> {
@@ -47,10 +33,8 @@ impl OrderedAreas<'_> {
         ensures within { Within at.0 end.0 result.from.0 result.end.0 }
         ensures walks_on { WalksOn self.now.base self.now.areas.now self.now.order at.0 k end.0 result }
     {
-        // Where the walk stops, `next` goes into the stretch: the next walk goes on with that area.
         let mut from = at;
-        let mut next = k;
-        while next < self.order.count {
+        for next in k..self.order.count {
             let area = self.area(next);
             let start = place_of(self.base, area.base);
             if from.0 < start.0 {
@@ -61,13 +45,17 @@ impl OrderedAreas<'_> {
                 };
             }
             from = Place(from.0.max(area.end_place(self.base, end).0));
-            next += 1;
         }
-        Stretch { from, end, next }
+        Stretch {
+            from,
+            end,
+            next: self.order.count,
+        }
     }
 
     // The lowest free place from `from` on that is in none of the areas, and the end of the ordinary places that it is among; where there is none,
-    // the place after the last, or `from` where that is past it, for both. The areas before k end before `from`.
+    // the place after the last, or `from` where that is past it, for both. The areas before k end before `from`. It is no
+    // option: the next search goes on from there.
     pub(crate) fn free_stretch(&self, marks: &[u32], from: Place, k: usize) -> Stretch
         ensures { FindsFree marks.now self.now.base self.now.areas.now self.now.order from.0 k result }
     {
@@ -79,13 +67,8 @@ impl OrderedAreas<'_> {
             let stretch = self.next_stretch(Place(i), next, Place(len));
             let end = stretch.end;
             next = stretch.next;
-            let at = first_met(marks, &Kind::Free, stretch.from, end);
-            if at.0 < end.0 {
-                return Stretch {
-                    from: at,
-                    end,
-                    next,
-                };
+            if let Some(from) = first_met(marks, &Kind::Free, stretch.from, end) {
+                return Stretch { from, end, next };
             }
             i = end.0;
         }
@@ -107,8 +90,7 @@ impl OrderedAreas<'_> {
         if end.0 <= from.0 {
             return self.free_stretch(marks, from, stretch.next);
         }
-        let at = first_met(marks, &Kind::Free, from, end);
-        if at.0 < end.0 {
+        if let Some(at) = first_met(marks, &Kind::Free, from, end) {
             return Stretch {
                 from: at,
                 end,

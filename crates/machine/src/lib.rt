@@ -34,6 +34,17 @@ pub struct Returned {
 }
 
 impl Machine {
+    // The record of the machine, with the areas that are lent to it.
+    fn lent<'a>(self, areas: &'a [u64]) -> LentRecord<'a>
+        ensures memory { result.memory ≡ self.memory }
+        ensures areas { result.areas ≡ areas.entry }
+    {
+        LentRecord {
+            memory: self.memory,
+            areas,
+        }
+    }
+
     // The machine as it was, after a call that changes no record and counts nothing.
     fn kept(self, answer: Result<Numbers, Refusal>) -> Returned
         ensures { result ≡ kept self answer }
@@ -48,55 +59,47 @@ impl Machine {
     pub fn put_movable(self, areas: &mut [u64], tables: &mut LentTables, name: u64) -> Returned
         ensures { Does (Call.PutMovable name) [] self areas.old areas.new result tables.old tables.new }
     {
-        let lent = LentRecord {
-            memory: self.memory,
-            areas,
-        };
-        self.kept(page_calls::put_page(lent, tables, name, Kind::Movable))
+        self.kept(page_calls::put_page(self.lent(areas), tables, name, Kind::Movable))
     }
 
     // A fixed page is put, which no area takes.
     pub fn put_fixed(self, areas: &mut [u64], tables: &mut LentTables, name: u64) -> Returned
         ensures { Does (Call.PutFixed name) [] self areas.old areas.new result tables.old tables.new }
     {
-        let lent = LentRecord {
-            memory: self.memory,
-            areas,
-        };
-        self.kept(page_calls::put_page(lent, tables, name, Kind::Fixed))
+        self.kept(page_calls::put_page(self.lent(areas), tables, name, Kind::Fixed))
     }
 
     // A page is gone from its frame, unless it is pinned.
     pub fn drop_page(self, areas: &mut [u64], tables: &mut LentTables, name: u64) -> Returned
         ensures { Does (Call.Drop name) [] self areas.old areas.new result tables.old tables.new }
     {
-        let lent = LentRecord {
-            memory: self.memory,
-            areas,
-        };
-        self.kept(page_calls::drop_page(lent, tables, name))
+        self.kept(page_calls::drop_page(self.lent(areas), tables, name))
     }
 
     // A movable page is pinned: nobody may move, rewrite or drop it.
     pub fn pin_page(self, areas: &mut [u64], tables: &mut LentTables, name: u64) -> Returned
         ensures { Does (Call.Pin name) [] self areas.old areas.new result tables.old tables.new }
     {
-        let lent = LentRecord {
-            memory: self.memory,
-            areas,
-        };
-        self.kept(page_calls::change_kind(lent, tables, name, Kind::Movable, Kind::Pinned))
+        self.kept(page_calls::change_kind(
+            self.lent(areas),
+            tables,
+            name,
+            Kind::Movable,
+            Kind::Pinned,
+        ))
     }
 
     // A pinned page is movable again.
     pub fn unpin_page(self, areas: &mut [u64], tables: &mut LentTables, name: u64) -> Returned
         ensures { Does (Call.Unpin name) [] self areas.old areas.new result tables.old tables.new }
     {
-        let lent = LentRecord {
-            memory: self.memory,
-            areas,
-        };
-        self.kept(page_calls::change_kind(lent, tables, name, Kind::Pinned, Kind::Movable))
+        self.kept(page_calls::change_kind(
+            self.lent(areas),
+            tables,
+            name,
+            Kind::Pinned,
+            Kind::Movable,
+        ))
     }
 
     // The word becomes the page's, unless it is pinned.
@@ -109,22 +112,14 @@ impl Machine {
     ) -> Returned
         ensures { Does (Call.Store name word) [] self areas.old areas.new result tables.old tables.new }
     {
-        let lent = LentRecord {
-            memory: self.memory,
-            areas,
-        };
-        self.kept(page_calls::store_page(lent, tables, name, word))
+        self.kept(page_calls::store_page(self.lent(areas), tables, name, word))
     }
 
     // The page's frame and its word.
     pub fn read_page(self, areas: &mut [u64], tables: &mut LentTables, name: u64) -> Returned
         ensures { Does (Call.Read name) [] self areas.old areas.new result tables.old tables.new }
     {
-        let lent = LentRecord {
-            memory: self.memory,
-            areas,
-        };
-        self.kept(page_calls::read_page(lent, tables, name))
+        self.kept(page_calls::read_page(self.lent(areas), tables, name))
     }
 
     // The lowest run that can be granted is the device's, and its movable pages stand elsewhere. It is counted.
@@ -139,16 +134,11 @@ impl Machine {
     ) -> Returned
         ensures { Does (Call.Grant area count align device) [] self areas.old areas.new result tables.old tables.new }
     {
-        let lent = LentRecord {
-            memory: self.memory,
-            areas,
-        };
-        let granted = device_calls::grant(lent, tables, area, count, align, device);
+        let granted = device_calls::grant(self.lent(areas), tables, area, count, align, device);
         let answer = granted.map_err(Refused::from);
-        let memory = self.memory;
         let counters = self.counters.after_grant(answer);
         Returned {
-            machine: Machine { memory, counters },
+            machine: Machine { counters, ..self },
             answer,
         }
     }
@@ -165,11 +155,7 @@ impl Machine {
     ) -> Returned
         ensures { Does (Call.Release area frame count device) [] self areas.old areas.new result tables.old tables.new }
     {
-        let lent = LentRecord {
-            memory: self.memory,
-            areas,
-        };
-        self.kept(device_calls::release(lent, tables, area, frame, count, device))
+        self.kept(device_calls::release(self.lent(areas), tables, area, frame, count, device))
     }
 
     // The word becomes that of a frame that the device owns.
@@ -183,11 +169,7 @@ impl Machine {
     ) -> Returned
         ensures { Does (Call.DeviceStore frame word device) [] self areas.old areas.new result tables.old tables.new }
     {
-        let lent = LentRecord {
-            memory: self.memory,
-            areas,
-        };
-        self.kept(device_calls::device_store(lent, tables, frame, word, device))
+        self.kept(device_calls::device_store(self.lent(areas), tables, frame, word, device))
     }
 
     // The word of a frame that the device owns.
@@ -200,11 +182,7 @@ impl Machine {
     ) -> Returned
         ensures { Does (Call.DeviceRead frame device) [] self areas.old areas.new result tables.old tables.new }
     {
-        let lent = LentRecord {
-            memory: self.memory,
-            areas,
-        };
-        self.kept(device_calls::device_read(lent, tables, frame, device))
+        self.kept(device_calls::device_read(self.lent(areas), tables, frame, device))
     }
 
     // A new area, where the request says or at the highest place that it can have. Its bitmap words become 0. The numbers of all areas are to
@@ -214,9 +192,8 @@ impl Machine {
     {
         let laid = setup::declare(self.memory, areas, tables, request);
         let memory = laid.map_or(self.memory, |laid| laid.memory);
-        let counters = self.counters;
         Returned {
-            machine: Machine { memory, counters },
+            machine: Machine { memory, ..self },
             answer: laid.map(|laid| laid.numbers).map_err(Refused::from),
         }
     }
@@ -249,11 +226,7 @@ impl Machine {
         ensures does { Does Call.Report buffer.old self areas.old areas.new result tables.old tables.new }
         ensures buffer_after { buffer.new ≡ reported (record_with self.memory areas.old) buffer.old (tables_in tables.old) }
     {
-        let lent = LentRecord {
-            memory: self.memory,
-            areas,
-        };
-        self.kept(report::report(lent, tables, buffer))
+        self.kept(report::report(self.lent(areas), tables, buffer))
     }
 
     // Any call. The text is a boot's and the buffer a report's, and no other call looks at them. Since it may be a declare or a boot, the numbers

@@ -9,11 +9,11 @@
 use Prim.Native.Nat.{ℕ, zero, suc, ◌+◌, ◌≤◌, ◌<◌}
 use native.Mathlib.Omega.{arith}
 use mathlib.Core.Path.{◌≡◌, refl, ap, ◌∙◌}
-use mathlib.Core.Bool.{true, false}
+use mathlib.Core.Bool.{true}
 use mathlib.Core.List.{List}
 use lib.ListN.{length}
 use lib.Dec.{leb, ltb}
-use borrow.Author.Tests.{leb-true, ltb-true, le-leb, lt-leb}
+use borrow.Author.Tests.{leb-true, ltb-true, le-leb}
 use Rattle.search.proofs.Bools.{by_cases, and_left, and_right}
 use Rattle.frames.specs.Tables.{Tables}
 use Rattle.machine.specs.declared.Machine.{Machine}
@@ -31,7 +31,6 @@ use Rattle.text.proofs.Texts.{four_most}
 use Rattle.records.proofs.Decoding.{Within, whole_within}
 use Rattle.playback.specs.declared.Progress.{Progress}
 use Rattle.playback.specs.declared.Stop.{Stop}
-use Rattle.playback.specs.declared.Stop.TheVariants as Stop
 use Rattle.playback.specs.Playback.{answer_to, has_room_for, room, last_step, Playing, playing, Played, line_for, progress_after, answer_one, stop_for, followed, answer_up_to, answer_records}
 use Rattle.playback.specs.Steps.Going.{or_stop, next_at}
 

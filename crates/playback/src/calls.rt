@@ -1,11 +1,10 @@
 // The call of a record, made on the tables that a replay holds.
-ghost use Rattle.std.specs.Prelude.{◌≡◌, [], length};
+ghost use Rattle.std.specs.Prelude.{◌≡◌, []};
 ghost use Rattle.answer.specs.Answers.{answer_at};
 ghost use Rattle.frames.specs.Tables.{tables};
 ghost use Rattle.rules.specs.Calls.{perform};
 ghost use Rattle.rules.specs.Counters.{counted};
 ghost use Rattle.rules.specs.Does.{record_with};
-ghost use Rattle.rules.specs.Limits.{most_area_numbers};
 ghost use Rattle.rules.specs.Outcomes.{outcome};
 ghost use Rattle.machine.specs.Does.{Makes};
 ghost use Rattle.playback.specs.Playback.{frames_for, answer_to};
@@ -13,25 +12,23 @@ ghost use Rattle.playback.specs.Playback.{frames_for, answer_to};
 use answer::{Refusal, Refused};
 use frames::LentTables;
 use machine::{Machine, Returned};
-use rules::Call;
+use rules::{Call, Record};
 
 // How many frames the tables are lent for: a boot's own, and for any other call those of the machine.
+#[tactic(auto, unfolding(crate::specs::Playback::frames_for), using(crate::proofs::Lending::not_boot))]
 fn frames_for(machine: Machine, call: Call) -> u64
     ensures { result ≡ frames_for machine.memory call }
 {
     match call {
-        Call::Boot {
-            base: _,
-            frames,
-            block_order: _,
-        } => frames,
+        Call::Boot { frames, .. } => frames,
         _ => machine.memory.frames,
     }
 }
 
-// A call on tables that are lent one by one: the borrow checker does not follow parts of a struct's slices into another struct.
+// A call on tables that are lent one by one: the borrow checker does not follow parts of a struct's slices into another struct, nor where each slice is
+// first taken into a variable.
 fn perform_on(
-    areas: &mut [u64],
+    areas: &mut [u64; Record::AREA_NUMBERS],
     marks: &mut [u32],
     words: &mut [u64],
     bitmap: &mut [u64],
@@ -39,7 +36,6 @@ fn perform_on(
     machine: Machine,
     call: Call,
 ) -> Returned
-    requires { length areas.old ≡ most_area_numbers }
     ensures performed { outcome (record_with result.machine.memory areas.new) (answer_at result.answer) (tables marks.new words.new bitmap.new owners.new) ≡ perform call [] (record_with machine.memory areas.old) (tables marks.old words.old bitmap.old owners.old) }
     ensures counted { result.machine.counters ≡ counted call (answer_at result.answer).refusal machine.counters }
 {
@@ -55,12 +51,11 @@ fn perform_on(
 // A call, lent an entry of marks, words and owners for each frame. A boot that asks for more frames than the tables hold is refused; a machine
 // never has more, since no such boot was accepted.
 pub(crate) fn answer(
-    areas: &mut [u64],
+    areas: &mut [u64; Record::AREA_NUMBERS],
     tables: &mut LentTables,
     machine: Machine,
     call: Call,
 ) -> Returned
-    requires { length areas.old ≡ most_area_numbers }
     ensures { Makes call (answer_to call) machine areas.old areas.new result tables.old tables.new }
 {
     let frames = frames_for(machine, call);

@@ -4,7 +4,6 @@
 ghost use Rattle.std.specs.Prelude.{◌≡◌, true, ◌+◌, ◌≤◌, length};
 ghost use Rattle.frames.specs.Lent.{tables_in, SameSlices};
 ghost use Rattle.frames.specs.Units.{most_number};
-ghost use Rattle.rules.specs.Limits.{most_area_numbers};
 ghost use Rattle.playback.specs.Playback.{has_room_for, playing, answer_one, stop_of, played, answer_records};
 ghost use Rattle.playback.specs.Steps.Going.{progress_with, next_at};
 
@@ -78,6 +77,7 @@ impl From<Undecoded> for Stop {
 }
 
 // Another line can be written after the text, in an output of `size` bytes, and its step counted.
+#[tactic(auto, unfolding(crate::specs::Playback::has_room_for))]
 fn has_room(size: usize, text: usize, step: u64) -> bool
     ensures { result ≡ has_room_for size text step }
 {
@@ -100,13 +100,13 @@ fn next_record(bytes: &[u8], out: &Writer, p: Going) -> Result<(Call, usize), St
 // One record of `size` bytes: its call is made, its line written, and its step counted.
 fn answer_one(
     out: &mut Writer,
-    areas: &mut [u64],
+    areas: &mut [u64; Record::AREA_NUMBERS],
     tables: &mut LentTables,
     p: Going,
     call: Call,
     size: usize,
 ) -> Going
-    requires { (has_room_for (length out.old.buffer.now) out.old.length p.step ≡ true) × (p.at + size ≤ most_number) × (length areas.old ≡ most_area_numbers) }
+    requires { (has_room_for (length out.old.buffer.now) out.old.length p.step ≡ true) × (p.at + size ≤ most_number) }
     ensures same { SameSlices tables.old tables.new × (out.new.buffer.ghost_name ≡ out.old.buffer.ghost_name) }
     ensures answered { playing (progress_with result areas.new out.new.length) out.new.buffer.now (tables_in tables.new) ≡ answer_one (playing (progress_with p areas.old out.old.length) out.old.buffer.now (tables_in tables.old)) call size }
 {

@@ -13,13 +13,13 @@ use Rattle.search.proofs.Bools.{below_or_not}
 use Rattle.search.proofs.Ranges.{every_all}
 use Rattle.std.proofs.Common.{rules}
 use Rattle.records.specs.declared.Kind.{Kind}
-use Rattle.records.specs.Records.{Body, number_of, body_length, body_of, bodies, sum}
+use Rattle.records.specs.Records.{Body, byte_of, body_length, body_of, bodies, sum}
 
 pub unknown_length : (kind : ℕ) → 13 ≤ kind → body_length kind ≡ 0
 unfolding body_length body_of bodies sum
 unknown_length kind h = ap (λ (b : Body). sum b.widths) (get_or-eq_default bodies _ {n = kind} h)
 
-pub some_length : (kind : Kind) → 0 < body_length (number_of kind)
+pub some_length : (kind : Kind) → 0 < body_length (byte_of kind)
 unfolding body_length body_of bodies sum
 some_length kind = search rules
 

@@ -14,7 +14,7 @@ use lib.ListN.{length, get_or}
 use lib.Dec.{eqb}
 use borrow.Author.Tests.{le-leb, lt-leb, eq-eqb, ne_eqb, lt-ltb, le-ltb, eqb-true, eqb-false}
 use Rattle.search.proofs.Bools.{by_cases, below_or_not}
-use Rattle.records.specs.Records.{number_of, body_length, body_at, decode_at}
+use Rattle.records.specs.Records.{byte_of, body_length, body_at, decode_at}
 use Rattle.records.specs.declared.Kind.{Kind}
 use Rattle.records.proofs.Bodies.{some_length, body_most}
 use Rattle.rules.specs.declared.Call.{Call}
@@ -68,9 +68,9 @@ module _ (s : List ℕ) (at : ℕ) where
       (λ h. absurd (let u = decode_past h in let f : ◌≡◌ {A = ℕ} 0 1 = cc in omega arith))
 
 -- a record whose kind is known by name
-module _ (s : List ℕ) (at : ℕ) (kind : Kind) (more : at < length s) (first : number_of kind ≡ get_or s at 0) where
+module _ (s : List ℕ) (at : ℕ) (kind : Kind) (more : at < length s) (first : byte_of kind ≡ get_or s at 0) where
   abbrev named_size : ℕ
-  named_size = body_length (number_of kind)
+  named_size = body_length (byte_of kind)
 
   same_size : named_size ≡ body_length (get_or s at 0)
   same_size = ap body_length first
@@ -81,5 +81,5 @@ module _ (s : List ℕ) (at : ℕ) (kind : Kind) (more : at < length s) (first :
   pub kind_cut : length s - (at + 1) < named_size → decode_at s at ≡ Err Cut
   kind_cut l = decode_cut s at more not_empty (omega (arith, same_size))
 
-  pub kind_whole : named_size ≤ length s - (at + 1) → decode_at s at ≡ Ok (body_at (number_of kind) s (at + 1), named_size + 1)
+  pub kind_whole : named_size ≤ length s - (at + 1) → decode_at s at ≡ Ok (body_at (byte_of kind) s (at + 1), named_size + 1)
   kind_whole l = rw first (decode_whole s at more not_empty (omega (arith, same_size)))

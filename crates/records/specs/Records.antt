@@ -13,24 +13,24 @@ little s at zero = 0
 little s at (suc n) = get_or s at 0 + 256 * little s (suc at) n
 
 -- the kinds' numbers
-abbrev pub number_of : Kind → ℕ
-number_of Kind.Boot = 0
-number_of Kind.PutMovable = 1
-number_of Kind.PutFixed = 2
-number_of Kind.Drop = 3
-number_of Kind.Pin = 4
-number_of Kind.Unpin = 5
-number_of Kind.Store = 6
-number_of Kind.Read = 7
-number_of Kind.Grant = 8
-number_of Kind.Release = 9
-number_of Kind.DeviceStore = 10
-number_of Kind.DeviceRead = 11
-number_of Kind.Declare = 12
+abbrev pub byte_of : Kind → ℕ
+byte_of Kind.Boot = 0
+byte_of Kind.PutMovable = 1
+byte_of Kind.PutFixed = 2
+byte_of Kind.Drop = 3
+byte_of Kind.Pin = 4
+byte_of Kind.Unpin = 5
+byte_of Kind.Store = 6
+byte_of Kind.Read = 7
+byte_of Kind.Grant = 8
+byte_of Kind.Release = 9
+byte_of Kind.DeviceStore = 10
+byte_of Kind.DeviceRead = 11
+byte_of Kind.Declare = 12
 
 -- the result is the kind with this number, or an error with a number that no kind has
 abbrev pub IsKindOf : ℕ → Result Kind Undecoded → Type 0
-IsKindOf number r = MatchResult r (λ kind. number_of kind ≡ number) (λ e. (e ≡ Unknown) × (12 < number))
+IsKindOf number r = MatchResult r (λ kind. byte_of kind ≡ number) (λ e. (e ≡ Unknown) × (12 < number))
 
 -- a body: the widths of its fields, and the call that their numbers give, by place
 pub record Body : Type 0 where

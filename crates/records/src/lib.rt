@@ -3,7 +3,7 @@
 #![tactic(auto, unfolding(crate::specs::Records::body_length, crate::specs::Records::body_at, crate::specs::Records::body_of, crate::specs::Records::bodies, crate::specs::Records::sum, crate::specs::Records::numbers))]
 
 ghost use Rattle.std.specs.Prelude.{◌≡◌, ◌+◌, ◌≤◌, length};
-ghost use Rattle.records.specs.Records.{little, number_of, IsKindOf, body_length, body_at, decode_at};
+ghost use Rattle.records.specs.Records.{little, byte_of, IsKindOf, body_length, body_at, decode_at};
 
 pub mod lines;
 
@@ -65,7 +65,7 @@ impl TryFrom<u8> for Kind {
 impl Kind {
     // The length of a body, which the kind fixes. No body is empty.
     pub fn body_length(self) -> usize
-        ensures { result ≡ body_length (number_of self) }
+        ensures { result ≡ body_length (byte_of self) }
     {
         match self {
             Kind::Boot => 13,
@@ -176,8 +176,8 @@ fn declare(body: &[u8]) -> Call
 
 // The call of a record of a kind, from bytes that begin with its whole body.
 fn call(kind: Kind, body: &[u8]) -> Call
-    requires { body_length (number_of kind) ≤ length body.now }
-    ensures { result ≡ body_at (number_of kind) body.now 0 }
+    requires { body_length (byte_of kind) ≤ length body.now }
+    ensures { result ≡ body_at (byte_of kind) body.now 0 }
 {
     match kind {
         Kind::Boot => boot(body),

@@ -14,7 +14,7 @@ use Rattle.text.specs.Reading.{gives, refuses}
 use Rattle.regions.specs.declared.Region.{Region}
 use Rattle.regions.specs.Amounts.{is_power_of_two, amount}
 use Rattle.regions.specs.Text.{is_named, region, most_text, regions_from, regions}
-use Rattle.regions.specs.Result.{how_many}
+use Rattle.regions.specs.Result.{regions_given}
 use Rattle.regions.specs.Promises.{many_regions, Promises}
 use Rattle.regions.proofs.Refusals.{Sound, Part, Few, part_regions, sound_regions}
 
@@ -28,7 +28,7 @@ not_too_long s at h e = let part : Part Few (refuses 24 at) = rw e at (part_regi
 at_most_64 : (s : List ℕ) (rs : List Region) (end : ℕ) → regions s ≡ gives rs end → length rs ≤ 64
 at_most_64 s rs end e = let sound : Sound Few (gives rs end) = rw e at (sound_regions s) in omega arith
 
-read_64 : how_many (regions (many_regions 64)) ≡ 64
+read_64 : regions_given (regions (many_regions 64)) ≡ 64
 unfolding lowest_from some every digit_of unit_of is_name_byte name_length same_bytes digits_end digits_value digits number is_power_of_two amount is_named region regions_from regions
 read_64 = refl
 

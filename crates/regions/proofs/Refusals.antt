@@ -24,7 +24,7 @@ use Rattle.text.specs.Numbers.{is_digit, is_hex, digits, number, most_bytes}
 use Rattle.text.specs.Reading.{Read, gives, refuses, ◌then◌, refuse_if}
 use Rattle.regions.specs.Amounts.{amount}
 use Rattle.regions.specs.Text.{is_named, expect, optional, size, start, alignment, is_first_fit, allocator, region, most_text, most_regions, regions_from, regions}
-use Rattle.regions.specs.Outcome.{outcome}
+use Rattle.regions.specs.Outcome.{regions_in}
 use Rattle.regions.specs.Result.{result_of, padded}
 use Rattle.regions.specs.Steps.Progress.{held}
 use Rattle.regions.proofs.Listing.{held_padded, length_snoc}
@@ -149,7 +149,7 @@ refused_of (refuses m at) n place e =
     let there : at ≡ place = cc in
     rw (same, there)
 
-pub answer_refused : (s : List ℕ) (e : Refused) → outcome (Err e) ≡ result_of (regions s) → regions s ≡ refuses (number_of e.refusal) e.place
+pub answer_refused : (s : List ℕ) (e : Refused) → regions_in (Err e) ≡ result_of (regions s) → regions s ≡ refuses (number_of e.refusal) e.place
 answer_refused s e same = refused_of (regions s) (number_of e.refusal) e.place same
 
 given_of : (s : List ℕ) (x : Read (List Region)) (r : Regions) → regions s ≡ x → gives (r.count, r.list) 0 ≡ result_of x → Given s r
@@ -161,5 +161,5 @@ given_of s (gives rs at) r same e =
     record { end = at; is = same ∙ ap (λ (l : List Region). gives l at) (sym holds); count = ap length holds ∙ sym size }
 given_of s (refuses n at) r same e = absurd (let z : ◌≡◌ {A = ℕ} 0 1 = cc in omega arith)
 
-pub answer_given : (s : List ℕ) (r : Regions) → outcome (Ok r) ≡ result_of (regions s) → Given s r
+pub answer_given : (s : List ℕ) (r : Regions) → regions_in (Ok r) ≡ result_of (regions s) → Given s r
 answer_given s r e = given_of s (regions s) r refl e

@@ -7,6 +7,6 @@ use Rattle.regions.specs.declared.Region.{Region}
 use Rattle.regions.specs.declared.Regions.{Regions}
 
 -- how many regions and the list that holds them, or a refusal's number and place
-abbrev pub outcome : Result Regions Refused → Read (ℕ × List Region)
-outcome (Ok r) = gives (r.count, r.list) 0
-outcome (Err r) = refuses (number_of r.refusal) r.place
+abbrev pub regions_in : Result Regions Refused → Read (ℕ × List Region)
+regions_in (Ok r) = gives (r.count, r.list) 0
+regions_in (Err r) = refuses (number_of r.refusal) r.place

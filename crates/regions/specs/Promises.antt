@@ -4,7 +4,7 @@ use Rattle.std.specs.Prelude.{ℕ, zero, suc, ◌+◌, ◌/◌, ◌%◌, ◌≤�
 use Rattle.text.specs.Reading.{gives, refuses}
 use Rattle.regions.specs.declared.Region.{Region}
 use Rattle.regions.specs.Text.{regions}
-use Rattle.regions.specs.Result.{how_many}
+use Rattle.regions.specs.Result.{regions_given}
 
 -- a text of up to 64 regions, each of one byte, with a ; after each; their names, from the last to the first, are aa, ab, .. ah, ba, .. hh
 abbrev pub many_regions : ℕ → List ℕ
@@ -18,5 +18,5 @@ pub record Promises : Type 0 where
   -- a text gives at most 64 regions
   pub at_most_64 : (s : List ℕ) (rs : List Region) (end : ℕ) → regions s ≡ gives rs end → length rs ≤ 64
   -- one of 64 regions is read, with a ; at its end; any byte after that ; is refused with 23, at that byte
-  pub read64 : how_many (regions (many_regions 64)) ≡ 64
+  pub read64 : regions_given (regions (many_regions 64)) ≡ 64
   pub byte_after_64 : (byte : ℕ) → regions (many_regions 64 ++ (byte ∷ [])) ≡ refuses 23 320

@@ -17,6 +17,6 @@ result_of (gives rs _) = gives (length rs, padded rs) 0
 result_of (refuses number at) = refuses number at
 
 -- how many regions a text gives: none where it is refused
-abbrev pub how_many : Read (List Region) → ℕ
-how_many (gives rs _) = length rs
-how_many (refuses _ _) = 0
+abbrev pub regions_given : Read (List Region) → ℕ
+regions_given (gives rs _) = length rs
+regions_given (refuses _ _) = 0

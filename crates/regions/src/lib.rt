@@ -1,7 +1,7 @@
 // The regions text: which areas a boot declares.
 #![tactic(auto)]
 
-ghost use Rattle.std.specs.Prelude.{◌≡◌, ◌+◌, ◌≤◌, ◌<◌, [], slice_set, replicate};
+ghost use Rattle.std.specs.Prelude.{◌≡◌, ◌+◌, ◌≤◌, ◌<◌, slice_set, replicate};
 ghost use Rattle.regions.specs.Amounts.{is_alignment};
 ghost use Rattle.regions.specs.Result.{no_region};
 ghost use Rattle.regions.specs.Text.{most_regions};
@@ -20,7 +20,8 @@ pub const MOST_TEXT: usize = 8192;
 // How many regions a text may give.
 pub const MOST_REGIONS: usize = 64;
 
-// A region of the text: where its name stands and how long it is, and its amounts in bytes; an amount that is not given is 0.
+// A region of the text: where its name stands and how long it is, and its amounts in bytes. A name is its place and length: two names of one text
+// are compared. An amount that is not given is 0, as one given as 0 is: the rules do not tell them apart.
 #[derive(Clone, Copy, Debug, PartialEq, Eq, Default)]
 pub struct Region {
     pub name: usize,
@@ -30,7 +31,8 @@ pub struct Region {
     pub alignment: u64,
 }
 
-// The regions that a text gives: the first `count` of the list. Entries after the count are all zero.
+// The regions that a text gives: the first `count` of the list. Entries after the count are all zero. An array and its count, since there is no
+// heap.
 #[derive(Clone, Copy)]
 pub struct Regions {
     pub count: usize,

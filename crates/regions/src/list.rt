@@ -11,7 +11,7 @@ use answer::{Refusal, Refused};
 use text::Scanned;
 
 // The ; after a region, or the end of the text.
-#[tactic(auto, using(std::proofs::lemmas::Bool::Decides::nat_tests), unfolding(crate::specs::Steps::Parts::separated_from))]
+#[tactic(auto, unfolding(crate::specs::Steps::Parts::separated_from))]
 fn separated(text: &[u8], at: usize, region: Region) -> Scanned<Region>
     ensures { scanned result ≡ separated_from region text.now at }
 {
@@ -32,7 +32,7 @@ fn next_region(text: &[u8], at: usize, before: &[Region]) -> Scanned<Region>
 }
 
 // One region more, read from an offset, or none where the text ends there.
-#[tactic(auto, using(std::proofs::lemmas::Bool::Decides::nat_tests), unfolding(crate::specs::Steps::Progress::one_more))]
+#[tactic(auto, unfolding(crate::specs::Steps::Progress::one_more))]
 pub fn one_more(text: &[u8], at: usize, before: &[Region]) -> Scanned<Option<Region>>
     ensures { scanned result ≡ one_more before.now text.now at }
 {

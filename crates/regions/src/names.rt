@@ -40,7 +40,7 @@ fn name(text: &[u8], at: usize) -> Scanned<usize>
 }
 
 // A name that no region has yet, and the = after it: gives its length.
-#[tactic(auto, using(std::proofs::lemmas::Bool::Decides::nat_tests), unfolding(crate::specs::Steps::Parts::new_name))]
+#[tactic(auto, unfolding(crate::specs::Steps::Parts::new_name))]
 pub fn new_name(text: &[u8], at: usize, before: &[Region]) -> Scanned<usize>
     ensures { scanned result ≡ new_name before.now text.now at }
 {

@@ -26,7 +26,7 @@ pub fn expect(text: &[u8], at: usize, byte: u8) -> Scanned<u8>
     Ok((byte, at + 1))
 }
 
-// An amount that a byte announces, or 0.
+// An amount that a byte announces, or 0, as one given as 0 is: the rules do not tell them apart.
 fn optional_amount(text: &[u8], at: usize, byte: u8, purpose: Purpose) -> Scanned<u64>
     requires { 0 < byte }
     ensures { scanned result ≡ optional byte (amount (wrong_for purpose)) 0 text.now at }

@@ -2,7 +2,7 @@
 ghost use Rattle.std.specs.Prelude.{◌≡◌};
 ghost use Rattle.regions.specs.Text.{regions};
 ghost use Rattle.regions.specs.Result.{result_of};
-ghost use Rattle.regions.specs.Outcome.{outcome};
+ghost use Rattle.regions.specs.Outcome.{regions_in};
 ghost use Rattle.regions.specs.Steps.Progress.{one_more, read_to};
 
 use crate::list::one_more;
@@ -30,7 +30,7 @@ impl<'a> Reader<'a> {
 
 // The regions of a text. Its length is judged first; then the reader reads on, one region after the other, to the end of the text.
 pub fn read_regions(text: &[u8]) -> Result<Regions, Refused>
-    ensures { outcome result ≡ result_of (regions text.now) }
+    ensures { regions_in result ≡ result_of (regions text.now) }
 {
     if MOST_TEXT < text.len() {
         return Err(Refused {

@@ -4,71 +4,38 @@
 // lent as much of them as its machine has frames.
 #![tactic(auto)]
 
-ghost use Rattle.std.specs.Prelude.{◌≡◌, ◌+◌, ◌≤◌, ◌<◌, length, IfSome};
+ghost use Rattle.std.specs.Prelude.{◌≤◌, ◌<◌, length, IfSome};
 ghost use Rattle.frames.specs.Lent.{SameSlices};
-ghost use Rattle.replay.specs.Steps.Bounds.{block, Bounds, Next, Turned};
+
+mod state;
 
 use frames::LentTables;
 use playback::{Held, Progress, Stop};
 use records::lines;
-use rules::{Counters, Record};
+use state::State;
 use std::io::Read;
 use text::writing::Writer;
 
 // The bytes of a block of input, and of the text that is written for it at once.
 const BLOCK: usize = 65536;
 
-// A proved loop has to end, and nothing says that the input does: so the loop has a budget of turns, which no run uses up, and of which each
-// takes at most a block of input.
-const TURNS: u64 = 140737488355328;
-
-// What is kept from turn to turn.
-#[derive(Clone, Copy)]
-struct State {
-    record: Record,
-    counters: Counters,
-    // The turns that are left.
-    left: u64,
-    // How many bytes of the block are filled, and the place in it of the next record.
-    filled: usize,
-    at: usize,
-    // The block's first offset in the input, and the number of records before `at`.
-    offset: u64,
-    step: u64,
-    // Nothing more can be read.
-    ended: bool,
-}
-
-fn start() -> State
-    ensures { Bounds result }
-{
-    State {
-        record: Record::fresh(),
-        counters: Counters::zero(),
-        left: TURNS,
-        filled: 0,
-        at: 0,
-        offset: 0,
-        step: 0,
-        ended: false,
-    }
-}
-
 // The next block: the record that was cut, if any, and what is read after it. It is shorter than a block, so there is room to read. At the end of
 // the input, and where a read fails, there is nothing.
-fn refill(rt: &impl Input, input: &mut [u8], s: State) -> State
-    requires { Bounds s × (length input.old ≡ block) }
-    ensures { Next s result }
+fn refill(rt: &impl Input, input: &mut [u8; BLOCK], s: State) -> State
+    ensures { result.left ≤ s.left }
 {
     input.copy_within(s.at..s.filled, 0);
     let kept = s.filled - s.at;
     let got = rt.reader().read(&mut input[kept..]).unwrap_or(0);
     State {
+        record: s.record,
+        counters: s.counters,
+        left: s.left,
         filled: kept + got,
         at: 0,
         offset: s.offset + s.at as u64,
+        step: s.step,
         ended: got == 0,
-        ..s
     }
 }
 
@@ -81,15 +48,16 @@ fn write_text(rt: &impl Print, out: &Writer) -> Option<()>
 
 // Writes the text, and what follows by the reason that the records stopped: more input, the next records where the text had no more room, or
 // nothing after a last line, the number of records or the offset of one that cannot be read. Where it cannot be written, nothing follows.
+#[tactic(auto, using(text::proofs::Within::writer_within))]
 fn after(
     rt: &(impl Input + Print),
-    input: &mut [u8],
+    input: &mut [u8; BLOCK],
     out: &mut Writer,
     s: State,
     why: Stop,
 ) -> Option<State>
-    requires { Bounds s × (length input.old ≡ block) × (out.old.length ≤ length out.old.buffer.now) }
-    ensures { IfSome result (Next s) }
+    requires { out.old.length ≤ length out.old.buffer.now }
+    ensures { IfSome result (λ next. next.left ≤ s.left) }
 {
     match why {
         Stop::Full => {
@@ -116,14 +84,13 @@ fn after(
 // One turn: answers the records of the block, writes their lines, and fetches more input where it is needed. None when the program is done.
 fn turn(
     rt: &(impl Input + Print),
-    input: &mut [u8],
+    input: &mut [u8; BLOCK],
     out: &mut [u8],
     tables: &mut LentTables,
     s: State,
 ) -> Option<State>
-    requires { Bounds s × (length input.old ≡ block) }
     ensures same { SameSlices tables.old tables.new }
-    ensures turned { IfSome result (Turned s) }
+    ensures turned { IfSome result (λ next. next.left < s.left) }
 {
     let left = s.left.checked_sub(1)?;
     let start = Progress {
@@ -139,9 +106,11 @@ fn turn(
         record: p.record,
         counters: p.counters,
         left,
+        filled: s.filled,
         at: p.at,
+        offset: s.offset,
         step: p.step,
-        ..s
+        ended: s.ended,
     };
     let mut text = Writer {
         buffer: out,
@@ -172,7 +141,7 @@ fn main(rt: HostRuntime) {
         owners: &mut held.owners,
     };
     write_heading(&rt);
-    let mut going = Some(start());
+    let mut going = Some(State::start());
     while let Some(s) = going {
         going = turn(&rt, &mut input, &mut out, &mut tables, s);
     }

@@ -11,6 +11,7 @@ ghost use Rattle.frames.specs.Areas.{per_bit, bit_count};
 ghost use Rattle.frames.specs.Lent.{tables_in};
 ghost use Rattle.text.specs.Writing.{Appends};
 ghost use Rattle.rules.specs.Does.{record_in, Answers};
+ghost use Rattle.rules.specs.Limits.{most_areas, most_frames, most_block_order};
 ghost use Rattle.rules.specs.Report.{total_label, free_label, amount_line, area_line, report_of, report, reported};
 ghost use Rattle.report.specs.Steps.Listing.{Bounded, Lists, PutWhole};
 
@@ -38,7 +39,7 @@ struct Totals {
 
 // An area's line.
 fn put_area(out: &mut Writer, number: u64, count: u64, used: u64, chunk: u64)
-    requires { out.old.length + 89 ≤ length out.old.buffer.now }
+    requires { out.old.length + LINE ≤ length out.old.buffer.now }
     ensures { Appends (area_line number count used chunk) out.old out.new }
 {
     out.put_bytes(b"area ");
@@ -57,7 +58,7 @@ fn put_amount(out: &mut Writer, label: &[u8], kilobytes: u64)
 
 // The frames of the longest stretch of clear bits of an area, by its bitmap.
 fn max_chunk(area: Area, bitmap: Bitmap) -> u64
-    requires { (area.count ≤ 262144) × (area.order_per_bit ≤ 10) }
+    requires { (area.count ≤ most_frames) × (area.order_per_bit ≤ most_block_order) }
     ensures { result ≡ per_bit area * longest (is_clear bitmap.entry.words.now bitmap.entry.start) 0 (bit_count area) }
 {
     let bits = bitmap.longest_clear(area.bits() as usize);
@@ -66,7 +67,7 @@ fn max_chunk(area: Area, bitmap: Bitmap) -> u64
 
 // The areas' lines, and the sums over all areas.
 fn list_areas(lent: LentRecord, tables: &LentTables, lines: &mut Writer) -> Totals
-    requires { Bounded lent.memory lent.areas.now × (lines.old.length ≡ 0) × (length lines.old.buffer.now ≡ 5696) }
+    requires { Bounded lent.memory lent.areas.now × (lines.old.length ≡ 0) × (length lines.old.buffer.now ≡ LINES) }
     ensures { Lists (record_in lent.entry) (tables_in tables.now) lent.entry.memory.declared lines.old lines.new result }
 {
     let mut total = 0;
@@ -101,7 +102,7 @@ fn put_both(buffer: &mut [u8], first: &[u8], second: &[u8]) -> Option<usize>
 
 // The two lines before them, with the sums in kB.
 fn put_sums(out: &mut Writer, sums: Totals)
-    requires { (sums.total ≤ 16777216) × (sums.free ≤ 16777216) × (out.old.length ≡ 0) × (128 ≤ length out.old.buffer.now) }
+    requires { (sums.total ≤ most_areas * most_frames) × (sums.free ≤ most_areas * most_frames) × (out.old.length ≡ 0) × (SUMS ≤ length out.old.buffer.now) }
     ensures { Appends (amount_line total_label (4 * sums.total) ++ amount_line free_label (4 * sums.free)) out.old out.new }
 {
     put_amount(out, b"CmaTotal: ", 4 * sums.total);

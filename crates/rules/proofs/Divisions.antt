@@ -2,7 +2,7 @@
 --     ceiling_le, le_ceiling    a quotient rounded up is at most c just where c times the divisor is enough
 --     ceiling_some              it is 0 for 0 alone
 --     up_low, up_high           a number rounded up is at or above it, by less than the divisor
---     down_low, down_high, down_below    a number rounded down is at or below it, by less than the divisor
+--     down_low, down_high       a number rounded down is at or below it, by less than the divisor
 --     rounds_to_none            just what is less than the divisor is rounded down to 0
 --     down_keeps                a multiple at or below a number is at or below it rounded down
 use Rattle.std.proofs.Common.{◌≡◌, ℕ, suc, ◌+◌, ◌-◌, ◌*◌, ◌/◌, ◌<◌, ◌≤◌, eqb, ltb, sym, ap, ◌∙◌, mul-le-mul_right, div-lt_iff_lt-mul, one-mul, le-div_iff_mul-le, zero-mul, div-mul-le_self, arith, le-ltb, lt-ltb, eq-eqb, ne_eqb}
@@ -51,7 +51,3 @@ module _ (x d : ℕ) (h : 0 < d) where
 
 pub down_keeps : (x d c : ℕ) → 0 < d → c * d ≤ x → c * d ≤ round_down x d
 down_keeps x d c hd h = mul-le-mul_right d ((le-div_iff_mul-le hd).1 h)
-
--- a number rounded down is below what the number is below
-pub down_below : (x d n : ℕ) → x < n → round_down x d < n
-down_below x d n h = omega (arith, div-mul-le_self x d)

@@ -27,7 +27,8 @@ abbrev pub Answers : (Record → Tables → Outcome) → LentRecord → Result N
 Answers call m r before after =
     SameSlices before after × (outcome (record_in m) (answer_of r) (tables_in after) ≡ call (record_in m) (tables_in before))
 
--- a function that hands back a memory and an answer does what a call does: it leaves the areas' numbers of the record where they were lent
+-- a function that hands back a memory, or leaves it where it is refused, does what a call does: the areas' numbers of the record stand where they
+-- were lent
 abbrev pub Returns : (Record → Tables → Outcome) → Memory → List ℕ → Memory → List ℕ → Answer → LentTables → LentTables → Type 0
 Returns call memory areas memory_after areas_after answer before after =
     SameSlices before after ×

@@ -24,14 +24,16 @@ pub struct Memory {
 }
 
 // The machine record, which each call takes and hands back, but for its counters: its memory by value, and the numbers of its areas lent, so that
-// no call but a boot copies them. They are one flat array, as a caller in C lends them.
+// no call but a boot copies them. They are one flat array, as a caller in C lends them. Held by value where a program keeps it between calls; a call
+// is lent its areas (`LentRecord`).
 #[derive(Clone, Copy)]
 pub struct Record {
     pub memory: Memory,
     pub areas: [u64; Record::AREA_NUMBERS],
 }
 
-// A record whose areas are lent, for a call that looks at it alone.
+// A record whose areas are lent, for a call that looks at it alone. It is copied, as tables that are lent to be written cannot be, so these stand
+// beside it.
 #[derive(Clone, Copy)]
 pub struct LentRecord<'a> {
     pub memory: Memory,
@@ -90,7 +92,7 @@ impl Record {
 
 // The record's counters since the last accepted boot: how many grants were accepted, and how many were refused with another number than that of
 // the wrong shape. They wrap on purpose after 4,294,967,295. No call but a grant and a boot changes them, and none looks at them.
-#[derive(Clone, Copy)]
+#[derive(Clone, Copy, Default)]
 pub struct Counters {
     pub granted: u32,
     pub refused: u32,
@@ -100,10 +102,7 @@ impl Counters {
     pub fn zero() -> Self
         ensures { result ≡ no_grants }
     {
-        Self {
-            granted: 0,
-            refused: 0,
-        }
+        Self::default()
     }
 
     // After a grant that was answered so.
@@ -114,17 +113,17 @@ impl Counters {
         match answer {
             Ok(_) => Self {
                 granted: self.granted.wrapping_add(1),
-                refused: self.refused,
+                ..self
             },
             Err(
                 Refused {
                     refusal: Refusal::WrongShape,
-                    place: _,
+                    ..
                 },
             ) => self,
             Err(_) => Self {
-                granted: self.granted,
                 refused: self.refused.wrapping_add(1),
+                ..self
             },
         }
     }
@@ -161,7 +160,7 @@ pub struct Request {
     pub fixed: bool,
 }
 
-// A call with its numbers. A boot's text and a report's buffer are lent beside it, since an enum holds no reference.
+// A call with its numbers alone. A boot's text and a report's buffer are lent beside it, as the bytes beside a call are in the definition `perform`.
 #[derive(Clone, Copy)]
 pub enum Call {
     PutMovable {

@@ -11,19 +11,20 @@
 use Prim.Native.Nat.{ℕ, suc, ◌+◌, ◌-◌, ◌*◌, ◌/◌, ◌%◌, ◌^◌, ◌≤◌, ◌<◌, max}
 use native.Mathlib.Omega.{arith}
 use native.Mathlib.Nat.{le_refl, mul_comm, div-add-mod, mod-lt, mod-eq_of_lt, mod_self, mul_assoc, mul-div_cancel, mul-le-mul_right, le-div_iff_mul-le, div-mul-le_self}
-use mathlib.Core.Bool.{Bool, true, false, not, ◌&&◌, ◌||◌}
+use mathlib.Core.Bool.{Bool, true, false, not, ◌&&◌, ◌||◌, true≢false}
 use mathlib.Core.List.{List, [], ◌∷◌}
 use mathlib.Core.Path.{◌≡◌, refl, sym, ap, ap₂, subst, ◌∙◌}
 use lib.Dec.{leb, ltb, eqb}
 use lib.ListN.{length}
 use borrow.Author.Tests.{lt-ltb, le-ltb, le-leb, lt-leb, ltb-false}
 use Rattle.std.specs.Int.{next_multiple_of}
-use Rattle.std.specs.Prelude.{Result, Ok, Err, if◌then◌else◌}
+use Rattle.std.specs.Prelude.{Option, Some, None, is_some, Result, Ok, Err, if◌then◌else◌}
 use Rattle.search.specs.Search.{highest_from}
 use Rattle.search.proofs.Bools.{below_or_not, and_both, and_left_false, and_right_false, or_left}
 use Rattle.search.proofs.Ranges.{every_cong}
 use Rattle.search.proofs.Highest.{highest_greatest, greatest_unique}
 use Rattle.frames.specs.declared.Area.{Area}
+use Rattle.frames.specs.declared.Frame.{Frame}
 use Rattle.frames.specs.Units.{frame, place}
 use Rattle.frames.specs.Marks.{has_kind, free}
 use Rattle.frames.specs.Areas.{ceiling, word_count}
@@ -44,7 +45,7 @@ use Rattle.rules.proofs.Rounding.{amounts, in_pages, alignment_some, limit_high}
 use Rattle.rules.proofs.Shapes.{memory_known}
 use Rattle.setup.specs.declared.amounts.Rounded.{Rounded}
 use Rattle.setup.specs.declared.amounts.AllowedRequest.{AllowedRequest}
-use Rattle.setup.specs.Steps.Held.{Scanned}
+use Rattle.setup.specs.Steps.Held.{TakenFrom, Scanned}
 use Rattle.setup.specs.Steps.Plan.{rounded_for, AmountsFit, plan_tables, planned, plan_after}
 
 -- ---- the amounts
@@ -175,20 +176,20 @@ module _ (m : Record) (r : Request) (t : Tables) where
           planned_pass _ _ _ (sym is ∙ good) ∙ planned_pass _ _ _ (le-ltb m.memory.block_order r.order_per_bit h))
 
 -- ---- a look at `count` frames from `first` on
-abbrev pub ScannedIn : Record → Tables → ℕ → ℕ → ℕ → Type 0
+abbrev pub ScannedIn : Record → Tables → ℕ → ℕ → Option Frame → Type 0
 ScannedIn m t = Scanned m.memory.base t.marks m.areas m.memory.declared
 
-module _ (m : Record) (t : Tables) (first count k : ℕ) {taken : ℕ} (is : ScannedIn m t first count taken) where
+module _ (m : Record) (t : Tables) (first count k : ℕ) where
   abbrev scanned_at : ℕ → Area
   scanned_at f = record { base = frame f; count = count; order_per_bit = k }
 
-  scanned_free : first + count ≤ taken → is_vacant m t (scanned_at first) ≡ true
+  scanned_free : ScannedIn m t first count None → is_vacant m t (scanned_at first) ≡ true
   unfolding is_vacant free_ordinary is_free_ordinary
-  scanned_free h = is.vacant h
+  scanned_free is = is
 
-  scanned_taken : (f : ℕ) → m.memory.base.0 ≤ f → f ≤ first → taken < f + count → is_vacant m t (scanned_at f) ≡ false
+  scanned_taken : {taken : Frame} → ScannedIn m t first count (Some taken) → (f : ℕ) → m.memory.base.0 ≤ f → f ≤ first → taken.0 < f + count → is_vacant m t (scanned_at f) ≡ false
   unfolding is_vacant free_ordinary is_free_ordinary
-  scanned_taken f a b h = is.fails f a b h
+  scanned_taken is f a b h = is.fails f a b h
 
 -- ---- the search from the top
 pub record Searching (m : Record) (r : Request) (t : Tables) (high : ℕ) : Type 0 where
@@ -318,33 +319,34 @@ module _ (w : AllowedRequest) where
                   omega
                   (arith, at, ltb-false x.base (start_byte m) (or_left (ltb x.base (start_byte m)) (ltb (end_byte m) (x.base + x.size)) (sym tested ∙ h)))
 
-              module _ {taken : ℕ} (is : ScannedIn m t first (x.size / page_bytes) taken) where
-                abbrev fixed_area : Area
-                fixed_area = record { base = frame first; count = x.size / page_bytes; order_per_bit = r.order_per_bit }
+              abbrev fixed_area : Area
+              fixed_area = record { base = frame first; count = x.size / page_bytes; order_per_bit = r.order_per_bit }
 
-                fixed_is : fixed_area ≡ area_for m r t
-                fixed_is =
-                    let begins : first ≡ base_for m r / page_bytes = omega (arith, base_is) in
-                    ap (λ (y : ℕ). record { base = frame y; count = x.size / page_bytes; order_per_bit = r.order_per_bit }) begins ∙
-                    ap (λ (y : ℕ). record { base = frame (base_for m r / page_bytes); count = y / page_bytes; order_per_bit = r.order_per_bit }) (size_is) ∙
-                    ap (λ (b : Bool). area_from m r (if b then base_for m r else highest_fit m r t * alignment_for m r)) (sym f)
+              fixed_is : fixed_area ≡ area_for m r t
+              fixed_is =
+                  let begins : first ≡ base_for m r / page_bytes = omega (arith, base_is) in
+                  ap (λ (y : ℕ). record { base = frame y; count = x.size / page_bytes; order_per_bit = r.order_per_bit }) begins ∙
+                  ap (λ (y : ℕ). record { base = frame (base_for m r / page_bytes); count = y / page_bytes; order_per_bit = r.order_per_bit }) (size_is) ∙
+                  ap (λ (b : Bool). area_from m r (if b then base_for m r else highest_fit m r t * alignment_for m r)) (sym f)
 
-                pub fixed_full : taken < first + x.size / page_bytes → Err 12 ≡ plan_after 7 m r t
-                fixed_full l =
-                    let v = sym (ap (is_vacant m t) fixed_is) ∙ scanned_taken m t first (x.size / page_bytes) r.order_per_bit is first fixed_low (le_refl first) l in
-                    sym
-                    (planned_pass _ _ _ inside ∙
-                    planned_stop _ _ _ (and_both (is_fixed m r) (not (is_vacant m t (area_for m r t))) f (ap not v)))
+              pub fixed_full : (taken : Option Frame) → true ≡ is_some taken → ScannedIn m t first (x.size / page_bytes) taken → Err 12 ≡ plan_after 7 m r t
+              fixed_full None some is = absurd (true≢false some)
+              fixed_full (Some taken) some is =
+                  let v = sym (ap (is_vacant m t) fixed_is) ∙ scanned_taken m t first (x.size / page_bytes) r.order_per_bit is first fixed_low (le_refl first) is.before in
+                  sym
+                  (planned_pass _ _ _ inside ∙
+                  planned_stop _ _ _ (and_both (is_fixed m r) (not (is_vacant m t (area_for m r t))) f (ap not v)))
 
-                pub fixed_there : first + x.size / page_bytes ≤ taken → Ok fixed_area ≡ plan_after 7 m r t
-                fixed_there l =
-                    let v = sym (ap (is_vacant m t) fixed_is) ∙ scanned_free m t first (x.size / page_bytes) r.order_per_bit is l in
-                    ap Ok fixed_is ∙
-                    sym
-                    (planned_pass _ _ _ inside ∙
-                    planned_pass _ _ _ (and_right_false (is_fixed m r) (not (is_vacant m t (area_for m r t))) (ap not v)) ∙
-                    planned_pass _ _ _ (and_left_false (not (is_fixed m r)) (leb (first_multiple m r + multiples m r) (highest_fit m r t)) (ap not f)) ∙
-                    planned_end (area_for m r t))
+              pub fixed_there : (taken : Option Frame) → false ≡ is_some taken → ScannedIn m t first (x.size / page_bytes) taken → Ok fixed_area ≡ plan_after 7 m r t
+              fixed_there (Some taken) none is = absurd (true≢false (sym none))
+              fixed_there None none is =
+                  let v = sym (ap (is_vacant m t) fixed_is) ∙ scanned_free m t first (x.size / page_bytes) r.order_per_bit is in
+                  ap Ok fixed_is ∙
+                  sym
+                  (planned_pass _ _ _ inside ∙
+                  planned_pass _ _ _ (and_right_false (is_fixed m r) (not (is_vacant m t (area_for m r t))) (ap not v)) ∙
+                  planned_pass _ _ _ (and_left_false (not (is_fixed m r)) (leb (first_multiple m r + multiples m r) (highest_fit m r t)) (ap not f)) ∙
+                  planned_end (area_for m r t))
 
     -- ---- the search from the top
     pub search_start : Searching m r t x.limit
@@ -402,26 +404,29 @@ module _ (w : AllowedRequest) where
           let h : at ≤ limit_for m r / alignment_for m r = (le-div_iff_mul-le fit.some).1 (omega (arith, s.below, k.bytes, k.ends)) in
           omega arith
 
-      module _ {taken : ℕ} (is : ScannedIn m t first count taken) where
-        -- nothing that ends above `taken` fits
-        pub tried_on : taken < first + count → Searching m r t (taken * page_bytes)
-        unfolding fits_at
-        tried_on h =
-            let size = size_is in
-            record {
-              below = omega (arith, s.below, k.ends, fit.size_pages);
-              fails = λ c a l.
-                  below_or_not high (c * alignment_for m r + size_for m r) (λ u. s.fails c a u)
-                  (λ u.
-                  let wide : c * alignment_for m r ≤ at * alignment_for m r = mul-le-mul_right (alignment_for m r) (k.next c u) in
-                  let pages : c * alignment_for m r ≡ c * alignment_for m r / page_bytes * page_bytes = whole c (alignment_for m r) fit.alignment_pages in
-                  let start : least_for m r ≤ c * alignment_for m r = le_ceiling (least_for m r) (alignment_for m r) c fit.some a in
-                  let f = c * alignment_for m r / page_bytes in
-                  and_right_false (leb (c * alignment_for m r + size_for m r) (limit_for m r)) _
-                  (subst (λ (y : ℕ). is_vacant m t (record { base = frame f; count = y / page_bytes; order_per_bit = r.order_per_bit }) ≡ false) size
-                  (scanned_taken m t first count r.order_per_bit is f (omega arith) (omega (arith, k.bytes)) (omega (arith, fit.size_pages)))));
-            }
+      pub tried_taken : {o : Option Frame} {taken : Frame} → ScannedIn m t first count o → o ≡ Some taken → TakenFrom m.memory.base t.marks m.areas m.memory.declared first count taken.0
+      tried_taken is e = subst (ScannedIn m t first count) e is
 
+      -- nothing that ends above `taken` fits
+      pub tried_on : {taken : Frame} → ScannedIn m t first count (Some taken) → Searching m r t (taken.0 * page_bytes)
+      unfolding fits_at
+      tried_on is =
+          let size = size_is in
+          record {
+            below = omega (arith, s.below, k.ends, fit.size_pages, is.before);
+            fails = λ c a l.
+                below_or_not high (c * alignment_for m r + size_for m r) (λ u. s.fails c a u)
+                (λ u.
+                let wide : c * alignment_for m r ≤ at * alignment_for m r = mul-le-mul_right (alignment_for m r) (k.next c u) in
+                let pages : c * alignment_for m r ≡ c * alignment_for m r / page_bytes * page_bytes = whole c (alignment_for m r) fit.alignment_pages in
+                let start : least_for m r ≤ c * alignment_for m r = le_ceiling (least_for m r) (alignment_for m r) c fit.some a in
+                let f = c * alignment_for m r / page_bytes in
+                and_right_false (leb (c * alignment_for m r + size_for m r) (limit_for m r)) _
+                (subst (λ (y : ℕ). is_vacant m t (record { base = frame f; count = y / page_bytes; order_per_bit = r.order_per_bit }) ≡ false) size
+                (scanned_taken m t first count r.order_per_bit is f (omega arith) (omega (arith, k.bytes)) (omega (arith, fit.size_pages)))));
+          }
+
+      module _ (is : ScannedIn m t first count None) where
         abbrev there : Area
         there = record { base = frame first; count = count; order_per_bit = r.order_per_bit }
 
@@ -431,16 +436,16 @@ module _ (w : AllowedRequest) where
             ap (λ (y : ℕ). record { base = frame y; count = count; order_per_bit = r.order_per_bit }) begins ∙
             ap (λ (y : ℕ). record { base = frame (at * alignment_for m r / page_bytes); count = y / page_bytes; order_per_bit = r.order_per_bit }) (size_is)
 
-        fits_there : first + count ≤ taken → fits_at m r t at ≡ true
+        fits_there : fits_at m r t at ≡ true
         unfolding fits_at
-        fits_there h =
+        fits_there =
             and_both (leb (at * alignment_for m r + size_for m r) (limit_for m r)) (is_vacant m t (area_from m r (at * alignment_for m r)))
             (le-leb (at * alignment_for m r + size_for m r) (limit_for m r) (omega (arith, s.below, k.bytes, k.ends)))
-            (sym (ap (is_vacant m t) there_is) ∙ scanned_free m t first count r.order_per_bit is h)
+            (sym (ap (is_vacant m t) there_is) ∙ scanned_free m t first count r.order_per_bit is)
 
-        found_there : first + count ≤ taken → highest_fit m r t ≡ at
+        found_there : highest_fit m r t ≡ at
         unfolding highest_fit
-        found_there h =
+        found_there =
             let p = fits_at m r t in
             let i = first_multiple m r in
             let d = multiples m r in
@@ -448,14 +453,14 @@ module _ (w : AllowedRequest) where
             (record {
               low = k.low;
               high = omega (arith, below_last);
-              hit = λ _. fits_there h;
+              hit = λ _. fits_there;
               miss = λ c a b. below_or_not high (c * alignment_for m r + size_for m r) (λ l. s.fails c (omega (arith, k.low)) l) (λ l. absurd (omega (arith, k.next c l)));
               none = λ same. absurd (omega (arith, below_last));
             })
 
-        pub tried_made : is_fixed m r ≡ false → first + count ≤ taken → Ok there ≡ plan_after 7 m r t
-        tried_made f h =
-            let found = found_there h in
+        pub tried_made : is_fixed m r ≡ false → Ok there ≡ plan_after 7 m r t
+        tried_made f =
+            let found = found_there in
             ap Ok (there_is ∙ ap (λ (y : ℕ). area_from m r (y * alignment_for m r)) (sym found)) ∙
             ap (λ (b : Bool). Ok (area_from m r (if b then base_for m r else highest_fit m r t * alignment_for m r))) (sym f) ∙
             sym

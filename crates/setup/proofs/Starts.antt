@@ -30,7 +30,7 @@ use Rattle.text.specs.Reading.{Read, gives, refuses, ◌then◌}
 use Rattle.regions.specs.Text.{most_regions, regions}
 use Rattle.regions.specs.Result.{no_region, result_of}
 use Rattle.regions.specs.Steps.Progress.{held}
-use Rattle.regions.specs.Outcome.{outcome as regions_in}
+use Rattle.regions.specs.Outcome.{regions_in}
 use Rattle.rules.specs.Limits.{most_areas, most_area_numbers}
 use Rattle.rules.specs.declared.Memory.{Memory}
 use Rattle.rules.specs.declared.Record.{Record}

@@ -138,13 +138,13 @@ module _ (base : Frame) (marks areas : List ℕ) (n first count : ℕ) {h : Held
   vacant_at = is_free_ordinary marks base areas n
 
   -- it reaches into the frames that an area holds: a range that begins no higher and ends above the first of them has one of them
-  pub scan_held : first < h.end.0 → Scanned base marks areas n first count h.from.0
+  pub scan_held : first < h.end.0 → Scanned base marks areas n first count (Some h.from)
   unfolding is_free_ordinary
   scan_held l =
       let some = s.below.some (omega arith) in
       let within = s.within in
       record {
-        vacant = λ v. absurd (omega arith);
+        before = omega arith;
         fails = λ f a b v.
             let e = min (f + count) h.end.0 - 1 in
             let here : e ≡ base.0 + (e - base.0) = omega arith in
@@ -158,25 +158,21 @@ module _ (base : Frame) (marks areas : List ℕ) (n first count : ℕ) {h : Held
     least : Least (λ q. not (marked (has_kind free) marks q)) from (end - from) used
     least = subst (Least (λ q. not (marked (has_kind free) marks q)) from (end - from)) (sym is) (lowest_least (λ q. not (marked (has_kind free) marks q)) from (end - from))
 
-    pub scan_free : end ≤ used → Scanned base marks areas n first count (first + count)
+    pub scan_free : end ≤ used → Scanned base marks areas n first count None
     unfolding is_free_ordinary
     scan_free l =
-        record {
-          vacant = λ v.
-              all_every vacant_at (first - base.0) count
-              (λ q u w.
-              and_both (marked (has_kind free) marks q) (not (in_areas_at base areas n q)) (not_flips (marked (has_kind free) marks q) (least.miss q (omega arith) (omega arith)))
-              (ap not (s.below.clear (base.0 + q) (omega arith) (omega arith))));
-          fails = λ f a b v. absurd (omega arith);
-        }
+        all_every vacant_at (first - base.0) count
+        (λ q u w.
+        and_both (marked (has_kind free) marks q) (not (in_areas_at base areas n q)) (not_flips (marked (has_kind free) marks q) (least.miss q (omega arith) (omega arith)))
+        (ap not (s.below.clear (base.0 + q) (omega arith) (omega arith))))
 
-    pub scan_used : {since taken : ℕ} → used < end → first + count ≤ most_number → UsedSince marks used since → taken ≡ min (base.0 + since) most_number → Scanned base marks areas n first count taken
+    pub scan_used : {since : ℕ} {taken : Frame} → used < end → first + count ≤ most_number → UsedSince marks used since → taken.0 ≡ min (base.0 + since) most_number → Scanned base marks areas n first count (Some taken)
     scan_used {since} {taken} l most run e =
         let begins : first ≤ base.0 + used = omega (arith, least.low) in
         let ends : base.0 + used < first + count = omega arith in
-        let same : taken ≡ base.0 + since = omega (arith, run.low) in
+        let same : taken.0 ≡ base.0 + since = omega (arith, run.low) in
         let here : marked (has_kind free) marks used ≡ false = not_flips (marked (has_kind free) marks used) (least.hit (omega arith)) in
         record {
-          vacant = λ v. absurd (omega (arith, run.low));
+          before = omega (arith, run.low);
           fails = λ f a b v. over_used base marks areas n first count begins ends run here f a b (omega arith);
         }

@@ -79,7 +79,7 @@ fn limit_within(limit: u64, end: u64) -> u64
 impl<'a> AllowedRequest<'a> {
     // The amounts are rounded as the search takes them.
     pub(crate) fn new(lent: LentRecord<'a>, request: Request) -> Self
-        requires block_order_value { memory_right lent.memory.base.0 lent.memory.frames lent.memory.block_order ≡ true }
+        requires memory_value { memory_right lent.memory.base.0 lent.memory.frames lent.memory.block_order ≡ true }
         requires request_value { bad_request request ≡ false }
         ensures { (result.lent ≡ lent.entry) × (result.request ≡ request) }
     {
@@ -100,14 +100,14 @@ impl<'a> AllowedRequest<'a> {
     }
 }
 
-// The request is fixed, and not cancelled by a base that is 0.
+// The request is fixed, and not cancelled by a base that is 0. The flag is the request's own, and chooses no step here.
 pub(crate) fn is_fixed(fixed: bool, base: u64) -> bool
     ensures { result ≡ (fixed && not (eqb base 0)) }
 {
     fixed && base != 0
 }
 
-// A limit was given, and a range that must begin at its base ends above what the limit has become.
+// A limit was given, and a range that must begin at its base ends above what the limit has become; `fixed` is what `is_fixed` tells.
 pub(crate) fn is_above_limit(limit_given: u64, limit: u64, fixed: bool, end: u64) -> bool
     ensures { result ≡ (fixed && not (eqb limit_given 0) && ltb limit end) }
 {

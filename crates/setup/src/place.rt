@@ -46,7 +46,8 @@ fn later_held(area: Area, held: Held, end: Frame) -> Held
     }
 }
 
-// The last frames before `end` that an area holds; none, at frame 0, where no area holds one.
+// The last frames before `end` that an area holds; none, at frame 0, where no area holds one. No option of it: a comparison with its end then needs
+// no case.
 fn last_held(lent: LentRecord, end: Frame) -> Held
     ensures { LastHeld lent.entry.areas.now lent.entry.memory.declared end.0 result }
 {
@@ -71,7 +72,7 @@ fn held_before(lent: LentRecord, held: Held, end: Frame) -> Held
     last_held(lent, end)
 }
 
-// The lowest place of the range that is not free.
+// The lowest place of the range that is not free. The scans of `frames` ask for a range within the marks; the range of this one may end past them.
 fn first_used(marks: &[u32], from: Place, end: Place) -> Option<Place>
     requires { from.0 ≤ end.0 }
     ensures { result ≡ place_below (lowest_from (λ q. not (marked (has_kind free) marks.now q)) from.0 (end.0 - from.0)) end.0 }
@@ -100,21 +101,19 @@ fn used_since(marks: &[u32], at: Place) -> Place
     Place(0)
 }
 
-// Where what is taken in a range of memory begins: the first of some frames in a row, each not free or in an area, that the range has one of;
-// the frame after the range where it has none. `held` is the last that an area holds before the range's end: after it every frame is ordinary,
+// Where what is taken in a range of memory begins, if some of it is: the first of some frames in a row, each not free or in an area, that the
+// range has one of. `held` is the last that an area holds before the range's end: after it every frame is ordinary,
 // and the marks alone say.
-fn first_taken(base: Frame, marks: &[u32], held: Held, first: Frame, count: u64) -> Frame
+fn first_taken(base: Frame, marks: &[u32], held: Held, first: Frame, count: u64) -> Option<Frame>
     requires { (base.0 ≤ first.0) × (first.0 + count ≤ most_number) }
-    ensures { Scans base marks.now held first.0 count result.0 }
+    ensures { Scans base marks.now held first.0 count result }
 {
     if first.0 < held.end.0 {
-        return held.from;
+        return Some(held.from);
     }
     let end = Frame(first.0 + count);
-    match first_used(marks, place_of(base, first), place_of(base, end)) {
-        Some(used) => frame_at(base, used_since(marks, used)),
-        None => end,
-    }
+    let used = first_used(marks, place_of(base, first), place_of(base, end))?;
+    Some(frame_at(base, used_since(marks, used)))
 }
 
 // A range at the base is outside memory, whose bytes are from `start` up to `end`.
@@ -141,8 +140,7 @@ impl<'a> AllowedRequest<'a> {
         let base = frame_of_byte(rounded.base);
         let count = rounded.size / Record::PAGE_BYTES;
         let held = last_held(self.lent, Frame(base.0 + count));
-        let taken = first_taken(memory.base, marks, held, base, count);
-        if taken.0 < base.0 + count {
+        if first_taken(memory.base, marks, held, base, count).is_some() {
             return Err(Refusal::RangeNotFree);
         }
         Ok(Area {
@@ -170,14 +168,13 @@ impl<'a> AllowedRequest<'a> {
             let start = (high - rounded.size) / rounded.alignment * rounded.alignment;
             let base = frame_of_byte(start);
             held = held_before(self.lent, held, Frame(base.0 + count));
-            let taken = first_taken(memory.base, marks, held, base, count);
-            if base.0 + count <= taken.0 {
+            let Some(taken) = first_taken(memory.base, marks, held, base, count) else {
                 return Ok(Area {
                     base,
                     count,
                     order_per_bit: self.request.order_per_bit,
                 });
-            }
+            };
             high = byte_of_frame(taken);
         }
         Err(Refusal::NoPlace)

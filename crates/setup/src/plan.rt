@@ -52,7 +52,8 @@ impl<'a> AllowedRequest<'a> {
     }
 }
 
-// The area that a declaration makes, or why it is refused, where the shape is not in question.
+// The area that a declaration makes, or why it is refused, where the shape is not in question. Of the tables it looks at the marks and the bitmap
+// alone, which come apart, since a boot plans with no marks.
 pub(crate) fn plan_area(
     lent: LentRecord,
     marks: &[u32],
@@ -75,6 +76,7 @@ pub(crate) fn plan_area(
 }
 
 // A record has one more area: the numbers of its areas where they are lent, and its memory as it is handed back.
+// They come apart, since the areas are written.
 pub(crate) fn with_area(memory: Memory, areas: &mut [u64], area: Area) -> Memory
     requires { memory.declared < most_areas }
     ensures { record_with result areas.new ≡ with_area (record_with memory areas.old) area }

@@ -29,6 +29,7 @@ fn request_of(region: Region) -> Request
 }
 
 // The memory keeps to its limits, the numbers of all areas are lent, and marks, words and owners have an entry for each frame.
+// What is asked is no record yet, so memory and areas come apart.
 pub(crate) fn is_bootable(memory: Memory, areas: &[u64], tables: &LentTables) -> bool
     ensures { result ≡ (has_all_areas (record_with memory areas.now) && (memory_right memory.base.0 memory.frames memory.block_order && lengths_right memory.frames (tables_in tables.now))) }
 {

@@ -21,7 +21,7 @@ struct Room {
     end: Frame,
 }
 
-// The first frame, the number of frames and the block order keep to their limits.
+// The first frame, the number of frames and the block order keep to their limits: three numbers and no memory, as the definition takes them.
 pub fn memory_right(base: Frame, frames: u64, block_order: u64) -> bool
     ensures { result ≡ memory_right base.0 frames block_order }
 {
@@ -37,16 +37,13 @@ pub fn memory_right(base: Frame, frames: u64, block_order: u64) -> bool
 fn apart(a: Area, c: Area) -> bool
     ensures { result ≡ are_disjoint a c }
 {
-    if a.base.0 <= c.base.0 {
-        if a.count <= c.base.0 - a.base.0 {
-            return true;
-        }
-        if a.base.0 < c.base.0 {
-            return false;
-        }
-        return c.count == 0;
+    if a.base.0 < c.base.0 {
+        return a.count <= c.base.0 - a.base.0;
     }
-    c.count <= a.base.0 - c.base.0
+    if c.base.0 < a.base.0 {
+        return c.count <= a.base.0 - c.base.0;
+    }
+    a.count == 0 || c.count == 0
 }
 
 // A number of frames is whole blocks of an order.
@@ -57,7 +54,8 @@ fn is_whole_blocks(frames: u64, order: u64) -> bool
     frames & ((1u64 << order) - 1) == 0
 }
 
-// An area has a frame, no more than a block to a bit, begins and ends on a block, and lies in memory.
+// An area has a frame, no more than a block to a bit, begins and ends on a block, and lies in memory. That the
+// memory keeps to its limits is a clause: a record is any numbers, so its type cannot say it.
 fn area_right(memory: Memory, a: Area) -> bool
     requires { memory_right memory.base.0 memory.frames memory.block_order ≡ true }
     ensures { result ≡ area_right memory a }
@@ -182,7 +180,8 @@ pub fn lengths_right(frames: u64, tables: &LentTables) -> bool
         && tables.owners.len() as u64 == frames
 }
 
-// Whether a record has the shape that every call but boot asks, with these tables.
+// Whether a record has the shape that every call but boot asks, with these tables. The tests return one by one, since the next rests on the one before:
+// areas are judged in a memory that keeps to its limits, and their words are counted where they fit.
 pub fn shape_right(lent: LentRecord, tables: &LentTables) -> bool
     ensures { result ≡ shape_right (record_in lent.entry) (tables_in tables.now) }
 {

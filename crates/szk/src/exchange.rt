@@ -15,7 +15,7 @@ use machine::{Machine, Returned};
 use rules::Call;
 
 // Whether the record or the answer is too short for a call. Either is refused as the wrong shape; an answer that is too short gets the
-// refusal's number alone.
+// refusal's number alone. It answers whether the call ends here: each of the two is written in another way.
 fn refuse_short(numbers: &[u64], answer: &mut [u64]) -> bool
     ensures { Judged numbers.now answer.old result answer.new }
 {

@@ -1,5 +1,6 @@
 // The machine record and the answer as the numbers that a caller lends: the record's own five are read from there and written back, and those of
 // its areas stay where they are. Both counters are one number, the granted in its low 32 bits: so every number there is two counters.
+// A caller in C lends a plain slice, so that it is long enough is a clause of each function, after the one test in `exchange`.
 ghost use Rattle.std.specs.Prelude.{◌≡◌, ◌≤◌, length, set};
 ghost use Rattle.answer.specs.Answers.{number_of};
 ghost use Rattle.szk.specs.Layout.{record_length, answer_length, record_from, counters_in, counters_from, own_numbers, answer_numbers, over};
@@ -57,7 +58,7 @@ pub fn store(numbers: &mut [u64], memory: Memory, counters: Counters)
     requires { record_length ≤ length numbers.old }
     ensures { numbers.new ≡ over (own_numbers memory counters) numbers.old }
 {
-    let both = counters.granted as u64 + ONE_REFUSED * counters.refused as u64;
+    let both = u64::from(counters.granted) + ONE_REFUSED * u64::from(counters.refused);
     numbers[..AREAS_START].copy_from_slice(&[
         memory.base.0,
         memory.frames,

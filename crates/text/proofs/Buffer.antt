@@ -1,17 +1,17 @@
 -- Texts stored in a buffer one after the other, and what is appended. Assumes nothing.
---     sets_then, set_after, set_before    a text after a text; a byte after a text; a byte before a text
---     copied                              a part that a text is copied into
---     room_yes, room_no                   what the test for room tells
---     appended, not_appended              a text that has room is stored; one that has none is not
---     appended_then                       a text appended after a text is the two as one text
---     appended_length                     the buffer keeps its length
+--     sets_then, set_after      a text after a text; a byte after a text
+--     copied                    a part that a text is copied into
+--     room_yes, room_no         what the test for room tells
+--     appended, not_appended    a text that has room is stored; one that has none is not
+--     appended_then             a text appended after a text is the two as one text
+--     appended_length           the buffer keeps its length
 use Prim.Native.Nat.{ℕ, suc, ◌+◌, ◌≤◌, ◌<◌}
 use native.Mathlib.Omega.{arith}
 use mathlib.Core.Path.{◌≡◌, refl, sym, ap, ◌∙◌}
 use mathlib.Core.Bool.{Bool, true, false}
 use mathlib.Core.List.{List, [], ◌∷◌, ◌++◌}
 use lib.ListN.{length, set, length-append}
-use lib.Seq.{sets, length-sets, sets-eq, set_comm, take_all}
+use lib.Seq.{sets, length-sets, sets-eq, take_all}
 use borrow.Rule.Slice.PartMut.{put_mid}
 use Rattle.std.proofs.lemmas.Slice.{put_mid-paste}
 use lib.Dec.{leb}
@@ -25,12 +25,6 @@ sets_then l i (x ∷ a) b n e = sets_then (set l i x) (suc i) a b n (omega (arit
 
 pub set_after : (l : List ℕ) (i : ℕ) (a : List ℕ) (x n : ℕ) → n ≡ i + length a → set (sets l i a) n x ≡ sets l i (a ++ (x ∷ []))
 set_after l i a x n e = sets_then l i a (x ∷ []) n e
-
-pub set_before : (l : List ℕ) (i : ℕ) (a : List ℕ) (x k : ℕ) → k < i → set (sets l i a) k x ≡ sets (set l k x) i a
-set_before l i [] x k h = refl
-set_before l i (y ∷ a) x k h =
-    set_before (set l i y) (suc i) a x k (omega arith)
-    ∙ ap (λ (m : List ℕ). sets m (suc i) a) (set_comm l i k y x (λ e. omega arith))
 
 -- a part of a buffer that a text is copied into
 pub copied : (l : List ℕ) (i k : ℕ) (text part : List ℕ) → part ≡ text → k ≡ length text → i + length text ≤ length l → put_mid i k l part ≡ sets l i text

@@ -15,7 +15,8 @@ pub fn byte_after(text: &[u8], at: usize, i: usize) -> u8
     byte_at(text, at.saturating_add(i))
 }
 
-// The value of a digit of any base up to 16; 16 for any other byte.
+// The value of a digit of any base up to 16; 16 for any other byte. An option of it would be asked twice, whether it is a digit and whether
+// the base has it.
 #[tactic(auto, unfolding(crate::specs::Bytes::digit_of))]
 pub fn digit_of(c: u8) -> u64
     ensures { result ≡ digit_of c }
@@ -28,7 +29,7 @@ pub fn digit_of(c: u8) -> u64
     }
 }
 
-// What K, M and G multiply by.
+// What K, M and G multiply by; 1 for any other byte, which is no unit: what it multiplies stays, so the product needs no case.
 #[tactic(auto, unfolding(crate::specs::Bytes::unit_of))]
 pub fn unit_of(c: u8) -> u64
     ensures { result ≡ unit_of c }

@@ -6,7 +6,7 @@ use crate::bytes::{byte_after, is_name_byte};
 
 const LONGEST_NAME: usize = 16;
 
-// The length of the name at an offset: 0 where none stands there.
+// The length of the name at an offset: 0 where none stands there. It is a length and no option, as the definition gives it.
 pub fn name_length(text: &[u8], at: usize) -> usize
     ensures { (result ≡ name_length text.now at) × (result ≤ length text.now - at) }
 {

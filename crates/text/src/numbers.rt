@@ -14,13 +14,15 @@ pub const MOST_BYTES: u64 = 281474976710656;
 // A number above 2^48.
 const TOO_MUCH: u64 = MOST_BYTES + 1;
 
-#[tactic(auto, using(std::proofs::lemmas::Bool::Decides::nat_tests), unfolding(crate::specs::Numbers::cap))]
+#[tactic(auto, unfolding(crate::specs::Numbers::cap))]
 fn capped(v: u64) -> u64
     ensures { result ≡ cap v }
 {
     v.min(TOO_MUCH)
 }
 
+// A base is 8, 10 or 16. It is a plain number, since the definitions take any and a value is reckoned with it: an enum would be made a number again in
+// each function.
 fn digits_end(text: &[u8], at: usize, base: u64) -> usize
     ensures { result ≡ digits_end base text.now at }
 {
@@ -58,7 +60,6 @@ fn digits(text: &[u8], at: usize, base: u64) -> Scanned<u64>
 }
 
 // One or more digits of a base.
-#[tactic(auto, using(std::proofs::lemmas::Bool::Decides::nat_tests))]
 fn some_digits(text: &[u8], at: usize, base: u64) -> Scanned<u64>
     requires { (0 < base) × (base ≤ 16) }
     ensures { scanned result ≡ capped (some_digits base text.now at) }
@@ -73,7 +74,6 @@ fn some_digits(text: &[u8], at: usize, base: u64) -> Scanned<u64>
 }
 
 // A number that begins with 0, from the byte after it on.
-#[tactic(auto, using(std::proofs::lemmas::Bool::Decides::nat_tests))]
 fn after_zero(text: &[u8], at: usize) -> Scanned<u64>
     ensures { scanned result ≡ capped (after_zero text.now at) }
 {
@@ -84,7 +84,7 @@ fn after_zero(text: &[u8], at: usize) -> Scanned<u64>
 }
 
 // A number: 0x and one or more hex digits, 0 and octal digits, or decimal digits, and at most one unit after them.
-#[tactic(auto, using(std::proofs::lemmas::Bool::Decides::nat_tests), unfolding(crate::specs::Numbers::number))]
+#[tactic(auto, unfolding(crate::specs::Numbers::number))]
 pub fn number(text: &[u8], at: usize) -> Scanned<u64>
     ensures { scanned result ≡ capped (number text.now at) }
 {

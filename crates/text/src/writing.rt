@@ -1,6 +1,5 @@
 // Bytes, labels and decimal numbers, appended to a lent buffer. A text is written whole, or where it has no room not at all.
 ghost use Rattle.std.specs.Prelude.{◌≡◌, ◌∷◌, [], ◌++◌, ◌+◌, ◌≤◌, length, leb};
-ghost use Rattle.std.proofs.lemmas.List.Edits.{sets};
 ghost use Rattle.text.specs.Writing.{decimal, last_digits, four_numbers, labelled, DigitsCounted, Appends};
 
 // How many digits a number has.
@@ -18,20 +17,21 @@ pub fn has_room(length: usize, at: usize, size: usize) -> bool
     length.checked_sub(at).is_some_and(|room| size <= room)
 }
 
-// Writes the last digits of a number from `at` on, the last one first.
-#[tactic(auto, using(crate::proofs::Filling::fill_turn))]
-fn fill(out: &mut [u8], at: usize, value: u64, count: usize)
-    requires { at + count ≤ length out.old }
-    ensures { out.new ≡ sets out.old at (last_digits count value) }
+// Fills a part of a buffer with the last digits of a number, the last one first. Its places are counted: of `iter_mut().rev()` no contract says
+// what the part holds after it.
+#[tactic(auto, using(crate::proofs::Filling::filled_more))]
+fn fill(digits: &mut [u8], value: u64)
+    ensures { digits.new ≡ last_digits (length digits.old) value }
 {
     let mut rest = value;
-    for i in (0..count).rev() {
-        out[at + i] = 48 + (rest % 10) as u8;
-        rest = rest / 10;
+    for i in (0..digits.len()).rev() {
+        digits[i] = b'0' + (rest % 10) as u8;
+        rest /= 10;
     }
 }
 
-// A text that is written to the front of a lent buffer, and how long it is.
+// A text that is written to the front of a lent buffer, and how long it is. A lent buffer and no String, since there is no heap. Its length may
+// pass its buffer, so that it does not is a clause where it is needed, and no invariant.
 #[derive(Drop)]
 pub struct Writer<'a> {
     pub buffer: &'a mut [u8],
@@ -59,7 +59,7 @@ impl<'a> Writer<'a> {
         if self.buffer.len().saturating_sub(at) <= count {
             return;
         }
-        fill(self.buffer, at, value, count);
+        fill(&mut self.buffer[at..at + count], value);
         self.buffer[at + count] = end;
         self.length = at + count + 1;
     }
@@ -72,8 +72,9 @@ impl<'a> Writer<'a> {
         if !has_room(self.buffer.len(), self.length, count) {
             return;
         }
-        fill(self.buffer, self.length, value, count);
-        self.length += count;
+        let end = self.length + count;
+        fill(&mut self.buffer[self.length..end], value);
+        self.length = end;
     }
 
     // Four numbers with a space between them, and the line's end. The room of the whole line is tested before anything is written.

@@ -4,6 +4,7 @@ use mathlib.Core.Path.{ap, ◌∙◌}
 use Rattle.frames.specs.declared.Area.{Area}
 use Rattle.frames.specs.Areas.{bit_of_frame, bits_for}
 use Rattle.frames.specs.Lent.{tables_in}
+use Rattle.frames.specs.Tables.{fill}
 use Rattle.rules.specs.Does.{record_in}
 use Rattle.device_calls.proofs.ReleaseOutcomes.{ranged, freed}
 use Rattle.device_calls.proofs.free_run.Goals as goal
@@ -25,4 +26,4 @@ returns-clause-freed c =
     let r = c.args.release in
     freed (record_in c.args.lent) r.area r.frame r.count (tables_in c.args.tables.now) c.place_of-page.ensures c.bitmap_start-start.ensures
     (c.bit_of_frame-first.ensures ∙ ap (λ (a : Area). bit_of_frame a r.frame) c.area_at-a.ensures) (c.bits_for-bits.ensures ∙ ap (λ (a : Area). bits_for a r.count) c.area_at-a.ensures)
-    c.fill.ensures c.fill-2.ensures c.put_run.ensures c.fill-3.ensures
+    (c.fill.ensures ∙ ap (fill c.args.tables.now.marks.now c.place_of-page.result.0 r.count) c.mark.ensures) c.fill-2.ensures c.put_run.ensures c.fill-3.ensures

@@ -5,6 +5,6 @@ use Rattle.answer.specs.Answers.{number_of}
 use Rattle.rules.specs.Outcomes.{Check, First, Passed}
 
 -- no check holds; or the first that holds has the refusal's number
-abbrev pub Judged : {A : Type 0} → List Check → Result A Refusal → Type 0
-Judged cs (Ok _) = Passed cs
-Judged cs (Err r) = First cs (number_of r)
+abbrev pub Decides : {A : Type 0} → List Check → Result A Refusal → Type 0
+Decides cs (Ok _) = Passed cs
+Decides cs (Err r) = First cs (number_of r)

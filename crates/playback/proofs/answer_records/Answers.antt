@@ -2,7 +2,7 @@
 -- nothing.
 use Rattle.std.proofs.Common.{rules}
 use native.Mathlib.Omega.{arith}
-use mathlib.Core.Path.{◌≡◌, refl, sym, ap, ◌∙◌}
+use mathlib.Core.Path.{refl, sym, ap, ◌∙◌}
 use Rattle.frames.specs.Lent.{tables_in}
 use Rattle.playback.specs.Playback.{Playing, playing}
 use Rattle.playback.specs.Steps.Going.{progress_with}
@@ -11,7 +11,7 @@ use Rattle.playback.proofs.answer_records.Goals as goal
 
 pub loop-call-init : goal.loop-call-init
 loop-call-init c =
-    (begins c.args.bytes.now (playing c.args.start c.args.out.now (tables_in c.args.tables.now)), (refl, refl, refl, refl), refl, search rules)
+    (begins c.args.bytes.now (playing c.args.start c.args.out.now (tables_in c.args.tables.now)), (refl, refl, refl, refl), refl)
 
 pub answer_one-p-requires : goal.answer_one-p-requires
 answer_one-p-requires c =
@@ -19,7 +19,7 @@ answer_one-p-requires c =
     let there : Found c.args.bytes.now state c.in-Ok.call c.in-Ok.size = found c.args.bytes.now (sym c.next_record.ensures ∙ c.in-Ok.is) in
     let within = there.within in
     let g = c.well_formed in
-    (there.room, omega arith, c.loop-call.invariant.3)
+    (there.room, omega arith)
 
 pub loop-call-smaller : goal.loop-call-smaller
 loop-call-smaller c =
@@ -36,7 +36,6 @@ loop-call-preserved c =
     let i = c.loop-call.invariant in
     let same = c.answer_one-p.ensures.same in (
       rw c.answer_one-p.ensures.answered (goes_on c.args.bytes.now start_of i.0 (sym c.next_record.ensures ∙ c.in-Ok.is)),
-      search rules,
       search rules,
       search rules,
     )

@@ -1,5 +1,5 @@
 -- What goes on from call to call.
-use Rattle.std.specs.Prelude.{ℕ, Bool, not, List, length, leb, if◌then◌else◌, Result, Ok, Err}
+use Rattle.std.specs.Prelude.{ℕ, not, List, length, leb, if◌then◌else◌, Result, Ok, Err}
 use Rattle.rules.specs.declared.Call.{Call}
 use Rattle.rules.specs.Does.{record_with}
 use Rattle.records.specs.declared.Undecoded.{Undecoded}

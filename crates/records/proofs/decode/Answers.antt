@@ -6,7 +6,7 @@ use lib.ListN.{get_or, length, length-drop}
 use Rattle.std.proofs.Common.{rules}
 use Rattle.std.specs.Prelude.{Err}
 use Rattle.records.specs.declared.Undecoded.TheVariants.{Unknown, Cut}
-use Rattle.records.specs.Records.{number_of, body_length}
+use Rattle.records.specs.Records.{byte_of, body_length}
 use Rattle.records.proofs.Bodies.{unknown_length}
 use Rattle.records.proofs.Decoding.{decode_past, decode_unknown, kind_cut, kind_whole}
 use Rattle.records.proofs.Pieces.{rest_after, body_after}
@@ -34,6 +34,6 @@ returns-then-rest-length c =
 pub returns : goal.returns
 returns c =
     let a = c.args in
-    rw (c.call.ensures, body_after (number_of c.in_ok-kind.kind) (a.at + 1) a.bytes.now, c.body_length-length.ensures)
+    rw (c.call.ensures, body_after (byte_of c.in_ok-kind.kind) (a.at + 1) a.bytes.now, c.body_length-length.ensures)
     (sym (kind_whole a.bytes.now a.at c.in_ok-kind.kind (search rules) (search rules)
     (omega (arith, c.if-rest-length.false, c.body_length-length.ensures, ap length (rest_after (a.at + 1) a.bytes.now), length-drop (a.at + 1) a.bytes.now))))

@@ -3,10 +3,16 @@ use Rattle.std.proofs.Common.{rules, arith}
 use Rattle.playback.proofs.Ran.{ran}
 use Rattle.replay.proofs.turn.Goals as goal
 
-pub after-requires : goal.after-requires
-after-requires g c =
-    let given = c.requires in
+pub invariant_of-next : goal.invariant_of-next
+invariant_of-next g c =
+    let given = c.args.s in
     let went = ran _ _ c.answer_records-stopped.ensures.answered (search rules) (omega arith) in
     let kept = c.answer_records-stopped.auto in
     let taken = c.in_ok-left.ensures in
-    (record { inside = omega arith; most = omega arith; steps = omega arith; budget = omega arith }, omega arith, omega arith)
+    record { inside = omega arith; most = omega arith; steps = omega arith; budget = omega arith }
+
+pub after-requires : goal.after-requires
+after-requires g c =
+    let went = ran _ _ c.answer_records-stopped.ensures.answered (search rules) (omega arith) in
+    let kept = c.answer_records-stopped.auto in
+    omega arith

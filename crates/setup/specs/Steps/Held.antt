@@ -1,5 +1,5 @@
 -- What a search for a place from the top knows of the areas: the last frames before some end that an area holds.
-use Rattle.std.specs.Prelude.{ℕ, ◌+◌, ◌-◌, ◌≤◌, ◌<◌, true, false, List, ◌≡◌}
+use Rattle.std.specs.Prelude.{ℕ, ◌+◌, ◌-◌, ◌≤◌, ◌<◌, true, false, List, Option, Some, None, ◌≡◌}
 use Rattle.search.specs.Search.{every}
 use Rattle.frames.specs.declared.Area.{Area}
 use Rattle.frames.specs.declared.Frame.{Frame}
@@ -29,12 +29,17 @@ pub record UsedSince (marks : List ℕ) (at r : ℕ) : Type 0 where
   pub low : r ≤ at
   pub used : (q : ℕ) → r ≤ q → q < at → marked (has_kind free) marks q ≡ false
 
--- a look at `count` frames from `first` on, in a table that begins at frame `base`: they are all free and ordinary, or no such range is that
--- begins at or below `first` and ends above `taken`
-pub record Scanned (base : Frame) (marks areas : List ℕ) (n first count taken : ℕ) : Type 0 where
-  pub vacant : first + count ≤ taken → every (is_free_ordinary marks base areas n) (first - base.0) count ≡ true
+-- `count` frames from `first` on, in a table that begins at frame `base`, are not all free and ordinary: what is taken begins at `taken`, and no
+-- such range is free that begins at or below `first` and ends above `taken`
+pub record TakenFrom (base : Frame) (marks areas : List ℕ) (n first count taken : ℕ) : Type 0 where
+  pub before : taken < first + count
   pub fails : (f : ℕ) → base.0 ≤ f → f ≤ first → taken < f + count → every (is_free_ordinary marks base areas n) (f - base.0) count ≡ false
 
+-- a look at those frames: where nothing is found taken they are all free and ordinary
+abbrev pub Scanned : Frame → List ℕ → List ℕ → ℕ → ℕ → ℕ → Option Frame → Type 0
+Scanned base marks areas n first count None = every (is_free_ordinary marks base areas n) (first - base.0) count ≡ true
+Scanned base marks areas n first count (Some taken) = TakenFrom base marks areas n first count taken.0
+
 -- it goes by the last frames before the range's end that an area holds
-abbrev pub Scans : Frame → List ℕ → Held → ℕ → ℕ → ℕ → Type 0
+abbrev pub Scans : Frame → List ℕ → Held → ℕ → ℕ → Option Frame → Type 0
 Scans base marks h first count taken = (areas : List ℕ) (n : ℕ) → LastHeld areas n (first + count) h → Scanned base marks areas n first count taken

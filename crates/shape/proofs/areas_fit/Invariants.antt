@@ -1,6 +1,5 @@
 -- `shape::areas_fit` meets its contract: the loop has found that each area below i fits, and keeps a room that is free of them.
 -- Assumes nothing.
-use Prim.Native.Nat.{◌≤◌}
 use mathlib.Core.Path.{◌≡◌}
 use mathlib.Core.Bool.{true}
 use Rattle.search.specs.Search.{every}

@@ -1,11 +1,11 @@
 -- `shape::is_whole_blocks` meets its contract: the bits below one shifted by the order are what is left of the number. Assumes nothing.
-use Prim.Native.Nat.{ℕ, ◌*◌, ◌-◌, ◌%◌, ◌^◌}
+use Prim.Native.Nat.{ℕ, ◌-◌}
 use native.Mathlib.Omega.{arith}
 use native.Mathlib.Nat.{one-mul}
 use lib.Bits.{bit_and, and_mask}
 use lib.Dec.{eqb}
 use lib.Pow.{shl_exact}
-use mathlib.Core.Path.{ap, sym, ◌∙◌}
+use mathlib.Core.Path.{ap, ◌∙◌}
 use Rattle.shape.proofs.is_whole_blocks.Goals as goal
 
 pub returns : goal.returns

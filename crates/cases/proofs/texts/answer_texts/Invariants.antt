@@ -1,5 +1,5 @@
 -- What is written ends within the buffer after each text, and the tables keep their slices.
-use Rattle.std.proofs.Common.{ℕ, length}
+use Rattle.std.proofs.Common.{length}
 use Rattle.frames.specs.Lent.{SameSlices}
 use Rattle.cases.specs.Steps.Texts.{Writes}
 use Rattle.cases.proofs.texts.answer_texts.Given as goal

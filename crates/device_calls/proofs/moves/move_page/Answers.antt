@@ -4,4 +4,4 @@ use Rattle.device_calls.proofs.MoveFacts.{moved_by}
 use Rattle.device_calls.proofs.moves.move_page.Goals as goal
 
 pub returns-clause-moved : goal.returns-clause-moved
-returns-clause-moved c = let x = c.args in moved_by (tables_in x.tables.now) x.page x.to c.fill.ensures c.fill-2.ensures
+returns-clause-moved c = let x = c.args in rw c.mark.ensures (moved_by (tables_in x.tables.now) x.page x.to c.fill.ensures c.fill-2.ensures)

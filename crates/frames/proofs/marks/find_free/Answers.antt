@@ -11,4 +11,4 @@ use Rattle.frames.proofs.marks.find_free.Goals as goal
 pub returns : goal.returns
 returns c =
     let len = length c.args.marks.now in
-    c.below.ensures ∙ ap (λ (i : ℕ). place_below i len) (c.first_met.ensures ∙ sym (lowest_start (marked (has_kind free) c.args.marks.now) len))
+    c.first_met.ensures ∙ ap (λ (i : ℕ). place_below i len) (sym (lowest_start (marked (has_kind free) c.args.marks.now) len))

@@ -23,4 +23,4 @@ returns-then-name-gt-MOST_FIELD c =
 pub returns : goal.returns
 returns c =
     let len = length c.args.marks.now in
-    c.below.ensures ∙ ap (λ (i : ℕ). place_below i len) (c.first_met.ensures ∙ sym (lowest_start (marked (is_page_of c.args.name) c.args.marks.now) len))
+    c.first_met.ensures ∙ ap (λ (i : ℕ). place_below i len) (sym (lowest_start (marked (is_page_of c.args.name) c.args.marks.now) len))

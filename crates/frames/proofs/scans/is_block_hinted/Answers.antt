@@ -6,4 +6,4 @@ pub loop-j-init : goal.loop-j-init
 loop-j-init g c = ask_start
 
 pub loop-j-preserved : goal.loop-j-preserved
-loop-j-preserved g c = rw c.is_hinted-hit.ensures (ask_turn c.loop-j.invariant)
+loop-j-preserved g c = ask_turn c.loop-j.invariant c.is_hinted-hit.ensures

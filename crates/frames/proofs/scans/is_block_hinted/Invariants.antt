@@ -4,4 +4,4 @@ use Rattle.frames.proofs.ScanFacts.{Asking}
 use Rattle.frames.proofs.scans.is_block_hinted.Given as goal
 
 abbrev pub invariant-loop-j : goal.invariant-loop-j
-invariant-loop-j g l = Asking (marked (g.T.MarkTest.hint l.test) l.marks) l.first l.hit l.j
+invariant-loop-j g l = Asking (marked (g.T.MarkTest.test l.test) l.marks) l.first l.hit l.j

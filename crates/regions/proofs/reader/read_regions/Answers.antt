@@ -1,11 +1,11 @@
--- `regions::read_regions` meets its contract: a reader begins, and each turn reads one region more. Assumes nothing.
+-- `regions::reader::read_regions` meets its contract: a reader begins, and each turn reads one region more. Assumes nothing.
 use mathlib.Core.Path.{◌≡◌, refl, sym, ap, ◌∙◌}
 use lib.ListN.{length}
 use borrow.Author.Tests.{lt-ltb}
 use Rattle.std.proofs.Common.{rules}
 use Rattle.answer.specs.Answers.{number_of}
 use Rattle.text.specs.Reading.{refuses, gives}
-use Rattle.regions.specs.Outcome.{outcome}
+use Rattle.regions.specs.Outcome.{regions_in}
 use Rattle.regions.specs.Result.{result_of, padded}
 use Rattle.regions.specs.Steps.Progress.{held}
 use Rattle.regions.specs.Text.{most_text, regions}
@@ -25,7 +25,7 @@ pub returns-in_err-region : goal.returns-in_err-region
 returns-in_err-region c =
     let l = c.loop-region in
     let e = c.in_err-region.field-0.0 in
-    let same : outcome c.from_residual.result ≡ refuses (number_of e.refusal) e.place = search rules in
+    let same : regions_in c.from_residual.result ≡ refuses (number_of e.refusal) e.place = search rules in
     same ∙ sym (ap result_of (reads_refused c.args.text.now l.known l.reader.place l.invariant.reading c.as_slice.result.now l.reader.text.now c.as_slice.ensures l.invariant.same (number_of e.refusal) e.place c.in_err-region.ensures.read))
 
 pub push-requires : goal.push-requires

@@ -1,37 +1,36 @@
 -- `frames::order::OrderedAreas::free_stretch` meets its contract: stretch by stretch of the ordinary places. Assumes nothing.
 use Prim.Native.Nat.{◌-◌}
 use native.Mathlib.Omega.{arith}
-use mathlib.Core.Path.{◌≡◌}
-use Rattle.search.specs.Search.{lowest_from}
+use mathlib.Core.Path.{refl}
 use Rattle.search.proofs.Lowest.{Least, lowest_least}
 use Rattle.frames.specs.Marks.{has_kind, free}
 use Rattle.frames.specs.Scans.{marked}
+use Rattle.frames.proofs.PlaceFacts.{below_some, below_none}
 use Rattle.frames.proofs.ScanFacts.{seek_end}
 use Rattle.frames.proofs.StretchFacts.{stretch_hit, stretch_skip}
 use Rattle.frames.proofs.order.OrderedAreas.free_stretch.Goals as goal
 
-pub returns-then-at-end : goal.returns-then-at-end
-returns-then-at-end c n ord few passed =
-    let found : c.first_met-at.result.0 ≡ lowest_from (marked (has_kind free) c.args.marks.now) c.next_stretch-stretch.result.from.0 (c.next_stretch-stretch.result.end.0 - c.next_stretch-stretch.result.from.0) = c.first_met-at.ensures in
+pub returns-in-Some : goal.returns-in-Some
+returns-in-Some c n ord few passed =
     let x = c.args in
     let stretch = c.next_stretch-stretch in
     let inv = c.loop-i.invariant n ord few passed in
     let walked = stretch.ensures.walks_on n ord inv.1 inv.2 in
-    let l : Least (marked (has_kind free) x.marks.now) stretch.result.from.0 (stretch.result.end.0 - stretch.result.from.0) c.first_met-at.result.0 =
-    rw found (lowest_least (marked (has_kind free) x.marks.now) stretch.result.from.0 (stretch.result.end.0 - stretch.result.from.0))
+    let at = below_some _ _ c.first_met.ensures c.in-Some.is in
+    let l : Least (marked (has_kind free) x.marks.now) stretch.result.from.0 (stretch.result.end.0 - stretch.result.from.0) c.in-Some.from.0 =
+    rw (at.is) (lowest_least (marked (has_kind free) x.marks.now) stretch.result.from.0 (stretch.result.end.0 - stretch.result.from.0))
     in
     record {
-      found = stretch_hit _ stretch.ensures.within walked.stretch _ inv.0 found c.if-at-end.true;
+      found = stretch_hit _ stretch.ensures.within walked.stretch _ inv.0 at.is at.high;
       walks = record { ordinary = λ k low high. walked.stretch.clear k (omega (arith, l.low)) high; next = walked.next; passed = walked.passed };
     }
 
 pub loop-i-preserved : goal.loop-i-preserved
 loop-i-preserved c n ord few passed =
-    let found : c.first_met-at.result.0 ≡ lowest_from (marked (has_kind free) c.args.marks.now) c.next_stretch-stretch.result.from.0 (c.next_stretch-stretch.result.end.0 - c.next_stretch-stretch.result.from.0) = c.first_met-at.ensures in
     let inv = c.loop-i.invariant n ord few passed in
     let stretch = c.next_stretch-stretch in
     let walked = stretch.ensures.walks_on n ord inv.1 inv.2 in
-    (stretch_skip _ stretch.ensures.within walked.stretch _ inv.0 found c.if-at-end.false, walked.next, walked.passed)
+    (stretch_skip _ stretch.ensures.within walked.stretch _ inv.0 refl (below_none _ _ c.first_met.ensures c.in_default.is), walked.next, walked.passed)
 
 pub returns : goal.returns
 returns c n ord few passed =

@@ -6,6 +6,7 @@ use mathlib.Core.Logic.{◌≢◌}
 use lib.ListN.{length, get_or}
 use Rattle.frames.specs.Areas.{area_in}
 use Rattle.frames.specs.Orders.{in_use}
+use Rattle.frames.specs.Targets.{NoneFreeIn}
 use Rattle.frames.specs.Steps.Others.{FreeIn, FreeInOther}
 use Rattle.frames.proofs.TargetFacts.{other_found, other_next, other_none, other_later}
 use Rattle.frames.proofs.order.OrderedAreas.next_other.Goals as goal
@@ -48,8 +49,10 @@ pub returns : goal.returns
 returns c n ord high few passed =
     let x = c.args in
     let inv = c.loop-next.invariant n ord few passed in
-    let next = c.loop-next.next in (
-      other_none x.marks.now x.self.now.base x.self.now.areas.now n x.self.now.order x.held ord x.last.from.0 next inv.1 high (omega (arith, ord.count, c.loop-next-test.false)),
-      inv.0,
-      other_later x.marks.now x.self.now.base x.self.now.areas.now n x.self.now.order x.held ord x.last.from.0 next inv.1 (length x.marks.now) high,
+    let count = x.self.now.order.count in
+    let last : c.loop-next.next ≡ count = omega (arith, ord.count, inv.0, c.loop-next-test.false) in
+    let none = subst (NoneFreeIn x.marks.now x.self.now.base x.self.now.areas.now x.self.now.order x.held x.last.from.0) last inv.1 in (
+      other_none x.marks.now x.self.now.base x.self.now.areas.now n x.self.now.order x.held ord x.last.from.0 count none high (omega (arith, ord.count)),
+      omega (arith, ord.count),
+      other_later x.marks.now x.self.now.base x.self.now.areas.now n x.self.now.order x.held ord x.last.from.0 count none (length x.marks.now) high,
     )

@@ -43,5 +43,7 @@ returns c =
     let g = c.loop-next.invariant in record {
       within = record { low = g.0; ordered = g.1; more = c.requires; high = le_refl _ };
       walks_on = λ n ord few passed.
-          underway_end x.self.now.base x.self.now.areas.now n x.self.now.order x.end.0 ord x.at.0 (g.2 n ord few passed) (omega (arith, ord.count, c.loop-next-test.false)) _ refl refl refl;
+          let u = g.2 n ord few passed in
+          underway_end x.self.now.base x.self.now.areas.now n x.self.now.order x.end.0 ord x.at.0 u (omega (arith, ord.count, c.loop-next-test.false)) _ refl refl
+          (omega (arith, ord.count, u.few, c.loop-next-test.false));
     }

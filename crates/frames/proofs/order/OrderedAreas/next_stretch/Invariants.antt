@@ -1,5 +1,5 @@
 -- `frames::order::OrderedAreas::next_stretch` meets its contract: area after area, in their order, until one begins after the place. Assumes nothing.
-use Prim.Native.Nat.{ℕ, ◌-◌, ◌≤◌}
+use Prim.Native.Nat.{ℕ, ◌≤◌}
 use Rattle.frames.specs.Orders.{in_use, Ordered}
 use Rattle.frames.specs.Walk.{Behind}
 use Rattle.frames.proofs.Walks.{Underway}
@@ -10,6 +10,3 @@ invariant-loop-next l =
     (l.initial.from.0 ≤ l.from.0) × (l.from.0 ≤ l.end.0) ×
     ((n : ℕ) (ord : Ordered l.self.areas.now (in_use l.self.areas.now n) l.self.order) → l.k ≤ in_use l.self.areas.now n → Behind l.self.base l.self.areas.now l.self.order l.end.0 l.initial.from.0 l.k
     → Underway l.self.base l.self.areas.now n l.self.order l.end.0 ord l.initial.from.0 l.from.0 l.next)
-
-abbrev pub decreases-loop-next : goal.decreases-loop-next
-decreases-loop-next l = l.self.order.count - l.next

@@ -20,8 +20,8 @@ is_outside-requires c = rounded_fits c.args.self
 pub returns-then-is_outside : goal.returns-then-is_outside
 returns-then-is_outside c = fixed_outside c.args.self c.args.marks.now c.requires c.byte_of_frame-start.ensures c.byte_of_frame-end.ensures c.is_outside.ensures c.if-is_outside.true
 
-pub returns-then-taken-base : goal.returns-then-taken-base
-returns-then-taken-base c = fixed_full c.args.self c.args.marks.now c.requires c.byte_of_frame-start.ensures c.byte_of_frame-end.ensures c.is_outside.ensures c.if-is_outside.false (ap (λ (v : Frame). v.0) c.frame_of_byte-base.ensures) (c.first_taken-taken.ensures _ _ c.last_held-held.ensures) c.if-taken-base.true
+pub returns-then-is_some : goal.returns-then-is_some
+returns-then-is_some c = fixed_full c.args.self c.args.marks.now c.requires c.byte_of_frame-start.ensures c.byte_of_frame-end.ensures c.is_outside.ensures c.if-is_outside.false (ap (λ (v : Frame). v.0) c.frame_of_byte-base.ensures) _ c.if-is_some.ensures (c.first_taken.ensures _ _ c.last_held-held.ensures)
 
 pub returns : goal.returns
-returns c = fixed_there c.args.self c.args.marks.now c.requires c.byte_of_frame-start.ensures c.byte_of_frame-end.ensures c.is_outside.ensures c.if-is_outside.false (ap (λ (v : Frame). v.0) c.frame_of_byte-base.ensures) (c.first_taken-taken.ensures _ _ c.last_held-held.ensures) c.if-taken-base.false
+returns c = fixed_there c.args.self c.args.marks.now c.requires c.byte_of_frame-start.ensures c.byte_of_frame-end.ensures c.is_outside.ensures c.if-is_outside.false (ap (λ (v : Frame). v.0) c.frame_of_byte-base.ensures) _ c.if-is_some.ensures (c.first_taken.ensures _ _ c.last_held-held.ensures)

@@ -1,6 +1,6 @@
 -- `setup::amounts::AllowedRequest::plan_highest` meets its contract: what does not end at or below `high` does not fit, the place tried is the
 -- highest that does, and of the frames below `high` those from the end of `held` on are in no area. Assumes nothing.
-use Rattle.setup.proofs.Plans.{rounded_some, rounded_fits, memory_ends, Searching, search_start, trying, tried_below, tried_inside, tried_made, tried_on, tried_all}
+use Rattle.setup.proofs.Plans.{rounded_some, ScannedIn, rounded_fits, memory_ends, Searching, search_start, trying, tried_below, tried_inside, tried_taken, tried_made, tried_on, tried_all}
 use Rattle.setup.proofs.Taken.{held_lower}
 use Rattle.setup.specs.Steps.Plan.{plan_tables}
 use Rattle.rules.specs.Does.{record_in}
@@ -24,27 +24,29 @@ held_before-held-requires c =
     let tried = trying c.args.self c.args.marks.now c.lowest_end-lowest.ensures (omega arith) (ap (λ (v : Frame). v.0) c.frame_of_byte-base.ensures) in
     held_lower _ c.loop-high.invariant.1 (tried_below c.args.self c.args.marks.now c.loop-high.invariant.0 tried)
 
-pub first_taken-taken-requires : goal.first_taken-taken-requires
-first_taken-taken-requires c =
+pub first_taken-requires : goal.first_taken-requires
+first_taken-requires c =
     let tried = trying c.args.self c.args.marks.now c.lowest_end-lowest.ensures (omega arith) (ap (λ (v : Frame). v.0) c.frame_of_byte-base.ensures) in
     (tried.in_memory, omega (arith, tried_inside c.args.self c.args.marks.now c.loop-high.invariant.0 tried))
 
-pub returns-then-base-count : goal.returns-then-base-count
-returns-then-base-count c =
+pub returns-in_default : goal.returns-in_default
+returns-in_default c =
     let tried = trying c.args.self c.args.marks.now c.lowest_end-lowest.ensures (omega arith) (ap (λ (v : Frame). v.0) c.frame_of_byte-base.ensures) in
-    tried_made c.args.self c.args.marks.now c.loop-high.invariant.0 tried (c.first_taken-taken.ensures _ _ c.held_before-held.ensures) c.requires c.if-base-count.true
+    tried_made c.args.self c.args.marks.now c.loop-high.invariant.0 tried (subst (ScannedIn (record_in c.args.self.lent) (plan_tables c.args.marks.now []) _ _) c.in_default.is (c.first_taken.ensures _ _ c.held_before-held.ensures)) c.requires
 
 pub byte_of_frame-high-requires : goal.byte_of_frame-high-requires
 byte_of_frame-high-requires c =
     let tried = trying c.args.self c.args.marks.now c.lowest_end-lowest.ensures (omega arith) (ap (λ (v : Frame). v.0) c.frame_of_byte-base.ensures) in
-    omega (arith, tried_inside c.args.self c.args.marks.now c.loop-high.invariant.0 tried, c.if-base-count.false)
+    let taken = tried_taken c.args.self c.args.marks.now c.loop-high.invariant.0 tried (c.first_taken.ensures _ _ c.held_before-held.ensures) c.in-Some.is in
+    omega (arith, tried_inside c.args.self c.args.marks.now c.loop-high.invariant.0 tried, taken.before)
 
 pub loop-high-preserved : goal.loop-high-preserved
 loop-high-preserved c =
-    let tried = trying c.args.self c.args.marks.now c.lowest_end-lowest.ensures (omega arith) (ap (λ (v : Frame). v.0) c.frame_of_byte-base.ensures) in (
+    let tried = trying c.args.self c.args.marks.now c.lowest_end-lowest.ensures (omega arith) (ap (λ (v : Frame). v.0) c.frame_of_byte-base.ensures) in
+    let taken = tried_taken c.args.self c.args.marks.now c.loop-high.invariant.0 tried (c.first_taken.ensures _ _ c.held_before-held.ensures) c.in-Some.is in (
       subst (Searching (record_in c.args.self.lent) c.args.self.request (plan_tables c.args.marks.now [])) (sym c.byte_of_frame-high.ensures)
-          (tried_on c.args.self c.args.marks.now c.loop-high.invariant.0 tried (c.first_taken-taken.ensures _ _ c.held_before-held.ensures) c.if-base-count.false),
-      held_lower _ c.held_before-held.ensures.below (omega (arith, c.byte_of_frame-high.ensures, c.if-base-count.false)),
+          (tried_on c.args.self c.args.marks.now c.loop-high.invariant.0 tried taken),
+      held_lower _ c.held_before-held.ensures.below (omega (arith, c.byte_of_frame-high.ensures, taken.before)),
     )
 
 pub returns : goal.returns

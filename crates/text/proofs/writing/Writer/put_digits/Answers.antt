@@ -7,6 +7,7 @@ use lib.ListN.{length, set, length-append}
 use Rattle.text.specs.Writing.{last_digits}
 use Rattle.text.proofs.Buffer.{set_after, appended, not_appended}
 use Rattle.text.proofs.Decimal.{last_length}
+use Rattle.text.proofs.Filling.{part_filled}
 use Rattle.text.proofs.writing.Writer.put_digits.Goals as goal
 
 -- the digits and the byte after them
@@ -35,7 +36,7 @@ returns c =
       slice = refl;
       appended =
           appended w.buffer.now w.length (text ++ (a.end ∷ [])) _ _ (omega (arith, long))
-          (ap (λ (o : List ℕ). set o (w.length + a.count) a.end) c.fill.ensures
+          (ap (λ (o : List ℕ). set o (w.length + a.count) a.end) (part_filled w.buffer.now w.length a.count _ a.value c.fill.new.digits c.fill.ensures (omega arith) (omega arith))
           ∙ set_after w.buffer.now w.length text a.end (w.length + a.count) (ap (λ (n : ℕ). w.length + n) (sym digits)))
           (omega (arith, long));
     }

@@ -7,6 +7,7 @@ use lib.Seq.{sets}
 use Rattle.text.specs.Writing.{decimal}
 use Rattle.text.proofs.Buffer.{room_yes, room_no, appended, not_appended}
 use Rattle.text.proofs.Decimal.{counted_digits}
+use Rattle.text.proofs.Filling.{part_filled}
 use Rattle.text.proofs.writing.Writer.put_number.Goals as goal
 
 pub returns-then-not-has_room : goal.returns-then-not-has_room
@@ -29,6 +30,7 @@ returns c =
     record {
       slice = refl;
       appended =
-          appended w.buffer.now w.length (decimal c.args.value) c.fill.new.out _ (omega (arith, e, fits))
-          (c.fill.ensures ∙ ap (sets w.buffer.now w.length) (counted_digits c.args.value count.result count.ensures)) (omega (arith, e));
+          appended w.buffer.now w.length (decimal c.args.value) _ _ (omega (arith, e, fits))
+          (part_filled w.buffer.now w.length count.result _ c.args.value c.fill.new.digits c.fill.ensures (omega arith) fits
+          ∙ ap (sets w.buffer.now w.length) (counted_digits c.args.value count.result count.ensures)) (omega (arith, e));
     }
