@@ -31,7 +31,7 @@ pub(crate) struct State {
 }
 
 impl State {
-    pub fn start() -> Self {
+    pub(crate) fn start() -> Self {
         State {
             record: Record::fresh(),
             counters: Counters::zero(),
