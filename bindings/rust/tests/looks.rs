@@ -81,7 +81,7 @@ fn reads_at_one_place(source: &str) -> bool {
 /// candidates.
 fn only_hands_on(source: &str) -> bool {
     let code = code(source);
-    let own = [("bitmap: Bitmap<'a>,", 1), ("bitmap: Bitmap { words: tables.bitmap,", 1)];
+    let own = [("bitmap: Bitmap<'a>,", 1), ("marks: &[u32], bitmap: &[u64],", 1), ("bitmap: Bitmap { words: bitmap,", 1)];
     let steps = [("self.bitmap.next_open(", 1), ("self.bitmap.clear_bits(", 1)];
     let calls = [("next_open(", 1), ("clear_bits(", 1), ("|", 0), ("for ", 0), ("while ", 1), ("while j <= last", 1)];
     let fields = [".marks", ".base", ".bitmap", ".area", ".bits", ".count", ".last", ".order", ".starts"];
@@ -89,7 +89,6 @@ fn only_hands_on(source: &str) -> bool {
     is_just(&code, &["bitmap", "words"], &[&own[..], &steps[..]].concat(), &[&calls[..], &AGAIN[..]].concat())
         && goes_on(&code, "self", &[&fields[..], &methods[..]].concat())
         && goes_on(&code, "search", &[" = Search {", ".try_run("])
-        && goes_on(&code, "tables", &[": &LentTables", ".marks", ".bitmap"])
 }
 
 #[test]

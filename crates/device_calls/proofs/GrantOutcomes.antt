@@ -6,9 +6,9 @@
 --     nowhere, granted                  the run's pages have nowhere to go; they have
 use Prim.Native.Nat.{ℕ, ◌+◌, ◌-◌, ◌≤◌, ◌<◌}
 use native.Mathlib.Omega.{arith}
-use mathlib.Core.Path.{◌≡◌, sym, ap, ap₂, subst, ◌∙◌}
+use mathlib.Core.Path.{◌≡◌, refl, sym, ap, ap₂, subst, ◌∙◌}
 use mathlib.Core.Bool.{Bool, true, false, ◌||◌}
-use mathlib.Core.List.{List}
+use mathlib.Core.List.{List, []}
 use lib.Dec.{leb, ltb, eqb}
 use Rattle.std.specs.Prelude.{Some, None}
 use lib.ListN.{length, take}
@@ -33,7 +33,7 @@ use Rattle.rules.specs.Limits.{most_frames, most_block_order, most_align_order, 
 use Rattle.rules.specs.Shape.{shape_right}
 use Rattle.rules.specs.Outcomes.{outcome, refuse, First, here, there, Passed}
 use Rattle.rules.specs.Targets.{is_target, targets}
-use Rattle.rules.specs.DeviceCalls.{bad_device, is_unknown, bitmap_of, place_of_bit, chosen, movers, move_out, mark_run, take_run, grant_checks, grant}
+use Rattle.rules.specs.DeviceCalls.{bad_device, is_unknown, bitmap_of, place_of_bit, is_candidate, is_grantable, chosen, movers, move_out, mark_run, take_run, grant_checks, grant}
 use Rattle.rules.proofs.Checks.{checked_first, checked_stop, checked_pass, checked_end}
 use Rattle.rules.proofs.Shapes.{shape_known}
 use Rattle.rules.proofs.AreaRight.{area_known}
@@ -44,7 +44,7 @@ use Rattle.rules.proofs.Ledger.GrantedRun.{run_inside}
 use Rattle.frames.proofs.AreaFacts.{holds_yes}
 use Rattle.device_calls.specs.Steps.DeviceSteps.{SearchFits, LeavesArea, RunFits, run_for}
 use Rattle.device_calls.proofs.Alignment.{lower_multiple}
-use Rattle.device_calls.proofs.MoveFacts.{out_keeps}
+use Rattle.device_calls.proofs.MoveFacts.{out_others}
 
 -- ---- the tables after a run is taken
 module _ (m : Record) (t : Tables) (i count : ℕ) (j : Bit) where
@@ -55,20 +55,22 @@ module _ (m : Record) (t : Tables) (i count : ℕ) (j : Bit) where
   pub run_placed : {a : Area} {f : Frame} {p : Place} → a ≡ area_at m i → f ≡ frame_of_bit a j → p ≡ place (f.0 - m.memory.base.0) → p ≡ first
   run_placed e f p = p ∙ ap (λ (x : Frame). place (x.0 - m.memory.base.0)) (f ∙ ap (λ (x : Area). frame_of_bit x j) e)
 
-  pub taken : (device : ℕ) {u v : Tables} {bs os : List ℕ} {p : Place} {start n : ℕ} → p ≡ first → u ≡ move_out m t i p count → v ≡ mark_run u p count →
-      start ≡ bitmap_of m i → n ≡ bits_for (area_at m i) count → bs ≡ set_bits v.bitmap start j.0 n → os ≡ fill v.owners p.0 count device → tables v.marks v.words bs os ≡ take_run m t i count j device
+  -- tables with another bitmap and other owners
+  abbrev beside : List ℕ → List ℕ → Tables → Tables
+  beside bs os x = with_owners (with_bitmap x bs) os
+
+  pub taken : (device : ℕ) {ms₁ ws₁ ms₂ ws₂ bs os : List ℕ} {p : Place} {start n : ℕ} → p ≡ first → tables ms₁ ws₁ [] [] ≡ move_out m (tables t.marks t.words [] []) i p count →
+      tables ms₂ ws₂ [] [] ≡ mark_run (tables ms₁ ws₁ [] []) p count → start ≡ bitmap_of m i → n ≡ bits_for (area_at m i) count → bs ≡ set_bits t.bitmap start j.0 n →
+      os ≡ fill t.owners p.0 count device → tables ms₂ ws₂ bs os ≡ take_run m t i count j device
   unfolding take_run
-  taken device {u} {v} {bs} {os} {p} {start} {n} e out marks st ns bits owners =
-      let kept = out_keeps m i t p count in
-      let left : v ≡ mark_run (move_out m t i first count) first count =
-      marks ∙ ap (λ (x : Tables). mark_run x p count) out ∙ ap (λ (y : Place). mark_run (move_out m t i y count) y count) e
-      in
-      let bitmap : v.bitmap ≡ t.bitmap = ap (λ (x : Tables). x.bitmap) (marks ∙ ap (λ (x : Tables). mark_run x p count) out) ∙ kept.bitmap in
-      let held : v.owners ≡ t.owners = ap (λ (x : Tables). x.owners) (marks ∙ ap (λ (x : Tables). mark_run x p count) out) ∙ kept.owners in
-      ap (λ (x : Tables). tables x.marks x.words bs os) left ∙
-      ap₂ (λ (x y : List ℕ). with_owners (with_bitmap (mark_run (move_out m t i first count) first count) x) y)
-      (bits ∙ ap (λ (x : List ℕ). set_bits x start j.0 n) bitmap ∙ ap₂ (λ (x y : ℕ). set_bits t.bitmap x j.0 y) st ns)
-      (owners ∙ ap (λ (x : List ℕ). fill x p.0 count device) held ∙ ap (λ (y : Place). fill t.owners y.0 count device) e)
+  taken device {ms₁} {ws₁} {ms₂} {ws₂} {bs} {os} {p} {start} {n} e out marks st ns bits owners =
+      let moved : beside t.bitmap t.owners (tables ms₁ ws₁ [] []) ≡ move_out m t i first count =
+      ap (beside t.bitmap t.owners) (out ∙ ap (λ (y : Place). move_out m (tables t.marks t.words [] []) i y count) e) ∙
+      out_others m i t.bitmap t.owners (tables t.marks t.words [] []) first count in
+      ap (beside bs os) (marks ∙ ap (λ (y : Place). mark_run (tables ms₁ ws₁ [] []) y count) e) ∙
+      ap (λ (x : Tables). beside bs os (mark_run x first count)) moved ∙
+      ap₂ (λ (x y : List ℕ). beside x y (mark_run (move_out m t i first count) first count)) (bits ∙ ap₂ (λ (x y : ℕ). set_bits t.bitmap x j.0 y) st ns)
+      (owners ∙ ap (λ (y : Place). fill t.owners y.0 count device) e)
 
   targets_found : {a : Area} → a ≡ area_at m i → length t.marks ≡ m.memory.frames → how_many (is_free_outside t.marks m.memory.base a) 0 (length t.marks) ≡ targets m t i
   unfolding targets is_target is_free_outside
@@ -162,27 +164,34 @@ module _ (m : Record) (i count align device : ℕ) (t : Tables) where
           words_high = omega (arith, first_word_exact m t shaped i (let h : i ≤ m.memory.declared = omega (arith, known) in h));
         }
 
-    -- ---- the search
+    -- ---- the search, which looks at no words and at no owners
     abbrev all : ℕ
     all = bit_count (area_at m i)
 
+    abbrev looked : Tables
+    looked = tables t.marks [] t.bitmap []
+
+    is_looked : run_for m looked i count align ≡ run_for m t i count align
+    unfolding chosen is_grantable is_candidate
+    is_looked = refl
+
     -- where it finds a bit, that is the one chosen
-    pub run_is : {r : Bit} → Some r ≡ run_for m t i count align → (r ≡ chosen m t i count align) × (r.0 < all)
+    pub run_is : {r : Bit} → Some r ≡ run_for m looked i count align → (r ≡ chosen m t i count align) × (r.0 < all)
     run_is {r} e =
         let j = chosen m t i count align in
         by_cases (ltb j.0 all)
         (λ y.
-        let same : Some r ≡ Some j = e ∙ rw y in
+        let same : Some r ≡ Some j = e ∙ is_looked ∙ rw y in
         let is : r ≡ j = cc in
         (is, subst (λ (x : Bit). x.0 < all) (sym is) (ltb-true j.0 all y)))
-        (λ n. let same : Some r ≡ None = e ∙ rw n in cc)
+        (λ n. let same : Some r ≡ None = e ∙ is_looked ∙ rw n in cc)
 
-    pub none_found : None ≡ run_for m t i count align → grant m i count align device t ≡ refuse m t 7
+    pub none_found : None ≡ run_for m looked i count align → grant m i count align device t ≡ refuse m t 7
     unfolding grant
     none_found e =
         let j = chosen m t i count align in
         below_or_not j.0 all
-        (λ h. let same : None ≡ Some j = e ∙ rw (lt-ltb j.0 all h) in cc)
+        (λ h. let same : None ≡ Some j = e ∙ is_looked ∙ rw (lt-ltb j.0 all h) in cc)
         (λ h. checked_pass m t _ _ _ passed.0 ∙ checked_pass m t _ _ _ passed.1.0 ∙ checked_stop m t _ _ _ (le-leb all j.0 h))
 
     module _ {r : Bit} (e : r ≡ chosen m t i count align) where

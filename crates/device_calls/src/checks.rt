@@ -2,7 +2,7 @@
 ghost use Rattle.std.specs.Prelude.{◌≡◌, not, ◌||◌, suc, ◌+◌, ◌-◌, ◌≤◌, ◌<◌, ltb, eqb, length, get_or, take};
 ghost use Rattle.search.specs.Search.{every};
 ghost use Rattle.frames.specs.Marks.{is_granted, has_kind, field_of, head, later};
-ghost use Rattle.frames.specs.Lent.{tables_in};
+ghost use Rattle.frames.specs.Lent.{tables_read};
 ghost use Rattle.frames.specs.Scans.{marked};
 ghost use Rattle.rules.specs.Record.{area_at};
 ghost use Rattle.rules.specs.Limits.{most_end, most_block_order, most_align_order};
@@ -13,7 +13,7 @@ ghost use Rattle.device_calls.specs.Steps.Refusals.{Decides};
 use crate::units::block_of;
 use crate::{GrantRequest, ReleaseRequest};
 use answer::Refusal;
-use frames::{Area, Frame, Kind, LentTables, Place, are_later, area_at, place_of};
+use frames::{Area, Frame, Kind, Place, ReadTables, are_later, area_at, place_of};
 use rules::{LentRecord, Memory, Record};
 use shape::shape_right;
 
@@ -58,11 +58,11 @@ fn is_bad_frame(memory: Memory, frame: Frame, device: u64) -> bool
 // Whether a device may store to a frame, or read it.
 pub(crate) fn check_device(
     lent: LentRecord,
-    tables: &LentTables,
+    tables: ReadTables,
     frame: Frame,
     device: u64,
 ) -> Result<(), Refusal>
-    ensures { Decides (device_checks (record_in lent.entry) frame device (tables_in tables.now)) result }
+    ensures { Decides (device_checks (record_in lent.entry) frame device (tables_read tables.entry)) result }
 {
     if !shape_right(lent, tables) {
         return Err(Refusal::WrongShape);
@@ -128,10 +128,10 @@ fn is_other_grant(marks: &[u32], page: Place, count: u64) -> bool
 // Whether a grant may be released.
 pub(crate) fn check_release(
     lent: LentRecord,
-    tables: &LentTables,
+    tables: ReadTables,
     release: ReleaseRequest,
 ) -> Result<(), Refusal>
-    ensures { Decides (release_checks (record_in lent.entry) release.area release.frame release.count release.device (tables_in tables.now)) result }
+    ensures { Decides (release_checks (record_in lent.entry) release.area release.frame release.count release.device (tables_read tables.entry)) result }
 {
     if !shape_right(lent, tables) {
         return Err(Refusal::WrongShape);
@@ -166,10 +166,10 @@ fn is_bad_grant(memory: Memory, request: GrantRequest) -> bool
 // Whether a run may be looked for: a grant's first two checks.
 pub(crate) fn check_grant(
     lent: LentRecord,
-    tables: &LentTables,
+    tables: ReadTables,
     request: GrantRequest,
 ) -> Result<(), Refusal>
-    ensures { Decides (take 2 (grant_checks (record_in lent.entry) request.area request.count request.align request.device (tables_in tables.now))) result }
+    ensures { Decides (take 2 (grant_checks (record_in lent.entry) request.area request.count request.align request.device (tables_read tables.entry))) result }
 {
     if !shape_right(lent, tables) {
         return Err(Refusal::WrongShape);

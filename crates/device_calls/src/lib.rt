@@ -4,10 +4,11 @@
 #![tactic(auto)]
 
 ghost use Rattle.std.specs.Prelude.{◌≡◌, ◌<◌, ◌^◌, take};
-ghost use Rattle.frames.specs.Lent.{tables_in, SameSlices};
+ghost use Rattle.frames.specs.Tables.{tables};
+ghost use Rattle.frames.specs.Lent.{tables_in, tables_read, SameSlices};
 ghost use Rattle.rules.specs.Outcomes.{Passed};
 ghost use Rattle.rules.specs.DeviceCalls.{device_store, device_read, free_run, release, take_run, grant_checks, grant};
-ghost use Rattle.rules.specs.Does.{record_in, Answers};
+ghost use Rattle.rules.specs.Does.{record_in, AnswersOn, Answers};
 ghost use Rattle.device_calls.specs.Steps.DeviceSteps.{RangeFits, RunFits, Chooses};
 
 mod aligned;
@@ -20,7 +21,8 @@ use answer::{Numbers, Refusal};
 use bitmap::put_run;
 use checks::{check_device, check_grant, check_release};
 use frames::{
-    Bit, Frame, Kind, LentTables, area_at, count_movable, fill, has_free_outside, place_of,
+    Bit, Frame, Kind, LentTables, ReadTables, area_at, count_movable, fill, has_free_outside,
+    place_of,
 };
 use moves::{mark_run, move_out};
 use rules::LentRecord;
@@ -54,30 +56,39 @@ pub(crate) struct ChosenRun {
     pub(crate) moved: u64,
 }
 
-// The word becomes that of a frame that the device owns.
+// The word becomes that of a frame that the device owns. It changes the words alone, so the tables are lent one by one.
 pub fn device_store(
     lent: LentRecord,
-    tables: &mut LentTables,
+    marks: &[u32],
+    words: &mut [u64],
+    bitmap: &[u64],
+    owners: &[u32],
     frame: Frame,
     word: u64,
     device: u64,
 ) -> Result<Numbers, Refusal>
-    ensures { Answers (λ m. device_store m frame word device) lent.entry result tables.old tables.new }
+    ensures { AnswersOn (λ m. device_store m frame word device) lent.entry result (tables marks.now words.old bitmap.now owners.now) (tables marks.now words.new bitmap.now owners.now) }
 {
+    let tables = ReadTables {
+        marks,
+        words: &*words,
+        bitmap,
+        owners,
+    };
     check_device(lent, tables, frame, device)?;
     let page = place_of(lent.memory.base, frame);
-    tables.words[page.0] = word;
+    words[page.0] = word;
     Ok(Numbers::NONE)
 }
 
 // The word of a frame that the device owns.
 pub fn device_read(
     lent: LentRecord,
-    tables: &LentTables,
+    tables: ReadTables,
     frame: Frame,
     device: u64,
 ) -> Result<Numbers, Refusal>
-    ensures { Answers (λ m. device_read m frame device) lent.entry result tables.now tables.now }
+    ensures { AnswersOn (λ m. device_read m frame device) lent.entry result (tables_read tables.entry) (tables_read tables.entry) }
 {
     check_device(lent, tables, frame, device)?;
     let page = place_of(lent.memory.base, frame);
@@ -122,7 +133,7 @@ pub fn release(
         count,
         device,
     };
-    check_release(lent, tables, release)?;
+    check_release(lent, tables.read(), release)?;
     free_run(lent, tables, release);
     Ok(Numbers::NONE)
 }
@@ -139,8 +150,8 @@ fn take_run(lent: LentRecord, tables: &mut LentTables, request: GrantRequest, ru
     let start = bitmap_start(lent.areas, request.area);
     let page = place_of(lent.memory.base, frame_of_bit(a, run));
     let bits = a.bits_for(count) as usize;
-    move_out(lent, tables, request.area, page, count);
-    mark_run(tables, page, count);
+    move_out(lent, tables.marks, tables.words, request.area, page, count);
+    mark_run(tables.marks, tables.words, page, count);
     put_run(tables.bitmap, start, run.0, bits, true);
     fill(tables.owners, page.0, count, request.device as u32);
 }
@@ -148,15 +159,15 @@ fn take_run(lent: LentRecord, tables: &mut LentTables, request: GrantRequest, ru
 // A grant whose arguments are right: the lowest run that can be granted, where there is one and its pages have somewhere to go.
 fn choose_run(
     lent: LentRecord,
-    tables: &LentTables,
+    tables: ReadTables,
     request: GrantRequest,
 ) -> Result<ChosenRun, Refusal>
-    requires { Passed (take 2 (grant_checks (record_in lent) request.area request.count request.align request.device (tables_in tables.now))) }
-    ensures { Chooses (record_in lent.entry) (tables_in tables.now) request result }
+    requires { Passed (take 2 (grant_checks (record_in lent) request.area request.count request.align request.device (tables_read tables))) }
+    ensures { Chooses (record_in lent.entry) (tables_read tables.entry) request result }
 {
     let base = lent.memory.base;
     let area = area_at(lent.areas, request.area as usize);
-    let run = find_run(lent, tables, request).ok_or(Refusal::NoRun)?;
+    let run = find_run(lent, tables.marks, tables.bitmap, request).ok_or(Refusal::NoRun)?;
     let first = frame_of_bit(area, run);
     let moved = count_movable(tables.marks, place_of(base, first), request.count);
     if !has_free_outside(tables.marks, base, area, moved) {
@@ -182,8 +193,8 @@ pub fn grant(
         align,
         device,
     };
-    check_grant(lent, tables, request)?;
-    let chosen = choose_run(lent, tables, request)?;
+    check_grant(lent, tables.read(), request)?;
+    let chosen = choose_run(lent, tables.read(), request)?;
     take_run(lent, tables, request, chosen.run);
     Ok(Numbers {
         first: chosen.first.0,

@@ -1,7 +1,7 @@
 // The search of an area for the lowest run that can be granted.
-ghost use Rattle.std.specs.Prelude.{◌≡◌, ◌+◌, ◌*◌, ◌^◌, ◌≤◌};
+ghost use Rattle.std.specs.Prelude.{◌≡◌, [], ◌+◌, ◌*◌, ◌^◌, ◌≤◌};
 ghost use Rattle.frames.specs.Areas.{ceiling};
-ghost use Rattle.frames.specs.Lent.{tables_in};
+ghost use Rattle.frames.specs.Tables.{tables};
 ghost use Rattle.rules.specs.Limits.{most_frames, most_align_order};
 ghost use Rattle.rules.specs.Does.{record_in};
 ghost use Rattle.device_calls.specs.Steps.DeviceSteps.{SearchFits, TriesAt, ClearTo, ClearUpTo, SetIn, FramesRuleOut, BitsRuleOut, Tries, run_for};
@@ -10,7 +10,7 @@ use crate::GrantRequest;
 use crate::aligned::{first_aligned, starts};
 use crate::units::{bitmap_start, block_of, frame_of_bit};
 use bitmap::Bitmap;
-use frames::{Area, Bit, Frame, LentTables, area_at, first_stuck, place_of};
+use frames::{Area, Bit, Frame, area_at, first_stuck, place_of};
 use rules::LentRecord;
 
 // What is searched for, and where: the marks, the frame at which they begin, the area with its bitmap, the run's bits and frames, the last bit
@@ -119,9 +119,14 @@ fn steps_on(bit: usize, passed: usize, order: u64) -> usize
 
 // The lowest bit of an area at which a run can be granted. Only the bits whose first frames are multiples of 2^align are tried, up to the last
 // that leaves room.
-pub(crate) fn find_run(lent: LentRecord, tables: &LentTables, request: GrantRequest) -> Option<Bit>
+pub(crate) fn find_run(
+    lent: LentRecord,
+    marks: &[u32],
+    bitmap: &[u64],
+    request: GrantRequest,
+) -> Option<Bit>
     requires { SearchFits (record_in lent) request.area request.count request.align }
-    ensures { result ≡ run_for (record_in lent.entry) (tables_in tables.now) request.area request.count request.align }
+    ensures { result ≡ run_for (record_in lent.entry) (tables marks.now [] bitmap.now []) request.area request.count request.align }
 {
     let area = area_at(lent.areas, request.area as usize);
     let bits = area.bits_for(request.count) as usize;
@@ -129,10 +134,10 @@ pub(crate) fn find_run(lent: LentRecord, tables: &LentTables, request: GrantRequ
     let order = request.align.saturating_sub(area.order_per_bit);
     let first = first_aligned(area, request.align);
     let search = Search {
-        marks: tables.marks,
+        marks,
         base: lent.memory.base,
         bitmap: Bitmap {
-            words: tables.bitmap,
+            words: bitmap,
             start: bitmap_start(lent.areas, request.area),
         },
         area,

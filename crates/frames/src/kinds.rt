@@ -1,5 +1,5 @@
 // The kinds of marks.
-ghost use Rattle.std.specs.Prelude.{◌<◌, ◌^◌, ◌≡◌};
+ghost use Rattle.std.specs.Prelude.{◌%◌, ◌^◌, ◌≡◌};
 ghost use Rattle.frames.specs.Marks.{has_kind, field_of, mark_of, kind_number};
 
 // What a frame holds, as its mark says: nothing, a page, which is movable, pinned or fixed, or a frame of a grant, its first or a later one.
@@ -19,6 +19,9 @@ impl Kind {
     // How many numbers of kinds a mark has room for.
     const NUMBERS: u32 = 8;
 
+    // How many fields.
+    const FIELDS: u32 = 1 << 29;
+
     // The mark is of this kind.
     pub fn is_of(self, mark: u32) -> bool
         ensures { result ≡ has_kind (kind_number self) mark }
@@ -33,11 +36,10 @@ impl Kind {
         mark / Self::NUMBERS
     }
 
-    // The mark of a field and this kind. A longer field has no mark.
+    // The mark of a field and this kind. Of a field that is longer than a mark has room for, it has the lowest 29 bits.
     pub fn mark(self, field: u32) -> u32
-        requires { field < 2 ^ 29 }
-        ensures { result ≡ mark_of field (kind_number self) }
+        ensures { result ≡ mark_of (field % 2 ^ 29) (kind_number self) }
     {
-        Self::NUMBERS * field + self as u32
+        Self::NUMBERS * (field % Self::FIELDS) + self as u32
     }
 }

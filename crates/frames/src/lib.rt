@@ -1,6 +1,9 @@
 // Page frames, the areas that are reserved among them, and the marks that say what each frame holds.
 #![tactic(auto)]
 
+ghost use Rattle.std.specs.Prelude.{◌≡◌};
+ghost use Rattle.frames.specs.Lent.{tables_in, tables_read};
+
 mod areas;
 mod fills;
 mod kinds;
@@ -42,6 +45,29 @@ pub struct LentTables<'a> {
     pub words: &'a mut [u64],
     pub bitmap: &'a mut [u64],
     pub owners: &'a mut [u32],
+}
+
+// The same tables, lent to be read: a call that changes none of them asks for no more.
+#[derive(Clone, Copy)]
+pub struct ReadTables<'a> {
+    pub marks: &'a [u32],
+    pub words: &'a [u64],
+    pub bitmap: &'a [u64],
+    pub owners: &'a [u32],
+}
+
+impl LentTables<'_> {
+    // The tables as a call is lent them that looks alone.
+    pub fn read(&self) -> ReadTables<'_>
+        ensures { tables_read result ≡ tables_in self.now }
+    {
+        ReadTables {
+            marks: self.marks,
+            words: self.words,
+            bitmap: self.bitmap,
+            owners: self.owners,
+        }
+    }
 }
 
 // A reserved area: its first frame, its count of frames, and the order of its pages per bit, 2^order_per_bit (Linux's name; document

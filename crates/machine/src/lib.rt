@@ -13,7 +13,7 @@ ghost use Rattle.rules.specs.Report.{reported};
 ghost use Rattle.rules.specs.Does.{record_with};
 ghost use Rattle.machine.specs.Does.{kept, Does, DoesWithAll, beside, buffer_after};
 
-use answer::{Numbers, Refusal, Refused};
+use answer::{Answer, Numbers, Refusal, Refused};
 use frames::{Frame, Kind, LentTables};
 use rules::{Call, Counters, LentRecord, Memory, Record, Request};
 
@@ -55,34 +55,70 @@ impl Machine {
         }
     }
 
-    // A movable page is put.
+    // A movable page is put. Here and below, before a call that is lent the tables one by one, each is taken into a variable by `&mut *`, also one that
+    // the call only reads: the borrow checker has no rule for a field that is read behind a reference while another field there is lent.
     pub fn put_movable(self, areas: &mut [u64], tables: &mut LentTables, name: u64) -> Returned
         ensures { Does (Call.PutMovable name) [] self areas.old areas.new result tables.old tables.new }
     {
-        self.kept(page_calls::put_page(self.lent(areas), tables, name, Kind::Movable))
+        let marks = &mut *tables.marks;
+        let words = &mut *tables.words;
+        let bitmap = &mut *tables.bitmap;
+        let owners = &mut *tables.owners;
+        self.kept(page_calls::put_page(
+            self.lent(areas),
+            marks,
+            words,
+            bitmap,
+            owners,
+            name,
+            Kind::Movable,
+        ))
     }
 
     // A fixed page is put, which no area takes.
     pub fn put_fixed(self, areas: &mut [u64], tables: &mut LentTables, name: u64) -> Returned
         ensures { Does (Call.PutFixed name) [] self areas.old areas.new result tables.old tables.new }
     {
-        self.kept(page_calls::put_page(self.lent(areas), tables, name, Kind::Fixed))
+        let marks = &mut *tables.marks;
+        let words = &mut *tables.words;
+        let bitmap = &mut *tables.bitmap;
+        let owners = &mut *tables.owners;
+        self.kept(page_calls::put_page(
+            self.lent(areas),
+            marks,
+            words,
+            bitmap,
+            owners,
+            name,
+            Kind::Fixed,
+        ))
     }
 
     // A page is gone from its frame, unless it is pinned.
     pub fn drop_page(self, areas: &mut [u64], tables: &mut LentTables, name: u64) -> Returned
         ensures { Does (Call.Drop name) [] self areas.old areas.new result tables.old tables.new }
     {
-        self.kept(page_calls::drop_page(self.lent(areas), tables, name))
+        let marks = &mut *tables.marks;
+        let words = &mut *tables.words;
+        let bitmap = &mut *tables.bitmap;
+        let owners = &mut *tables.owners;
+        self.kept(page_calls::drop_page(self.lent(areas), marks, words, bitmap, owners, name))
     }
 
     // A movable page is pinned: nobody may move, rewrite or drop it.
     pub fn pin_page(self, areas: &mut [u64], tables: &mut LentTables, name: u64) -> Returned
         ensures { Does (Call.Pin name) [] self areas.old areas.new result tables.old tables.new }
     {
+        let marks = &mut *tables.marks;
+        let words = &mut *tables.words;
+        let bitmap = &mut *tables.bitmap;
+        let owners = &mut *tables.owners;
         self.kept(page_calls::change_kind(
             self.lent(areas),
-            tables,
+            marks,
+            words,
+            bitmap,
+            owners,
             name,
             Kind::Movable,
             Kind::Pinned,
@@ -93,9 +129,16 @@ impl Machine {
     pub fn unpin_page(self, areas: &mut [u64], tables: &mut LentTables, name: u64) -> Returned
         ensures { Does (Call.Unpin name) [] self areas.old areas.new result tables.old tables.new }
     {
+        let marks = &mut *tables.marks;
+        let words = &mut *tables.words;
+        let bitmap = &mut *tables.bitmap;
+        let owners = &mut *tables.owners;
         self.kept(page_calls::change_kind(
             self.lent(areas),
-            tables,
+            marks,
+            words,
+            bitmap,
+            owners,
             name,
             Kind::Pinned,
             Kind::Movable,
@@ -112,14 +155,26 @@ impl Machine {
     ) -> Returned
         ensures { Does (Call.Store name word) [] self areas.old areas.new result tables.old tables.new }
     {
-        self.kept(page_calls::store_page(self.lent(areas), tables, name, word))
+        let marks = &mut *tables.marks;
+        let words = &mut *tables.words;
+        let bitmap = &mut *tables.bitmap;
+        let owners = &mut *tables.owners;
+        self.kept(page_calls::store_page(
+            self.lent(areas),
+            marks,
+            words,
+            bitmap,
+            owners,
+            name,
+            word,
+        ))
     }
 
     // The page's frame and its word.
     pub fn read_page(self, areas: &mut [u64], tables: &mut LentTables, name: u64) -> Returned
         ensures { Does (Call.Read name) [] self areas.old areas.new result tables.old tables.new }
     {
-        self.kept(page_calls::read_page(self.lent(areas), tables, name))
+        self.kept(page_calls::read_page(self.lent(areas), tables.read(), name))
     }
 
     // The lowest run that can be granted is the device's, and its movable pages stand elsewhere. It is counted.
@@ -136,7 +191,7 @@ impl Machine {
     {
         let granted = device_calls::grant(self.lent(areas), tables, area, count, align, device);
         let answer = granted.map_err(Refused::from);
-        let counters = self.counters.after_grant(answer);
+        let counters = self.counters.after_grant(Answer::from(answer).refusal);
         Returned {
             machine: Machine { counters, ..self },
             answer,
@@ -169,7 +224,20 @@ impl Machine {
     ) -> Returned
         ensures { Does (Call.DeviceStore frame word device) [] self areas.old areas.new result tables.old tables.new }
     {
-        self.kept(device_calls::device_store(self.lent(areas), tables, frame, word, device))
+        let marks = &mut *tables.marks;
+        let words = &mut *tables.words;
+        let bitmap = &mut *tables.bitmap;
+        let owners = &mut *tables.owners;
+        self.kept(device_calls::device_store(
+            self.lent(areas),
+            marks,
+            words,
+            bitmap,
+            owners,
+            frame,
+            word,
+            device,
+        ))
     }
 
     // The word of a frame that the device owns.
@@ -182,7 +250,7 @@ impl Machine {
     ) -> Returned
         ensures { Does (Call.DeviceRead frame device) [] self areas.old areas.new result tables.old tables.new }
     {
-        self.kept(device_calls::device_read(self.lent(areas), tables, frame, device))
+        self.kept(device_calls::device_read(self.lent(areas), tables.read(), frame, device))
     }
 
     // A new area, where the request says or at the highest place that it can have. Its bitmap words become 0. The numbers of all areas are to
@@ -190,7 +258,11 @@ impl Machine {
     pub fn declare(self, areas: &mut [u64], tables: &mut LentTables, request: Request) -> Returned
         ensures { DoesWithAll (Call.Declare request) [] self areas.old areas.new result tables.old tables.new }
     {
-        let laid = setup::declare(self.memory, areas, tables, request);
+        let marks = &mut *tables.marks;
+        let words = &mut *tables.words;
+        let bitmap = &mut *tables.bitmap;
+        let owners = &mut *tables.owners;
+        let laid = setup::declare(self.memory, areas, marks, words, bitmap, owners, request);
         let memory = laid.map_or(self.memory, |laid| laid.memory);
         Returned {
             machine: Machine { memory, ..self },
@@ -214,7 +286,7 @@ impl Machine {
         let booted = setup::boot(areas, tables, base, frames, block_order, text);
         let memory = booted.map_or(self.memory, |laid| laid.memory);
         let answer = booted.map(|laid| laid.numbers);
-        let counters = self.counters.after_boot(answer);
+        let counters = self.counters.after_boot(Answer::from(answer).refusal);
         Returned {
             machine: Machine { memory, counters },
             answer,
@@ -226,7 +298,7 @@ impl Machine {
         ensures does { Does Call.Report buffer.old self areas.old areas.new result tables.old tables.new }
         ensures buffer_after { buffer.new ≡ reported (record_with self.memory areas.old) buffer.old (tables_in tables.old) }
     {
-        self.kept(report::report(self.lent(areas), tables, buffer))
+        self.kept(report::report(self.lent(areas), tables.read(), buffer))
     }
 
     // Any call. The text is a boot's and the buffer a report's, and no other call looks at them. Since it may be a declare or a boot, the numbers

@@ -1,14 +1,14 @@
 -- What a page call learns from the scan of the marks and from the look-up. Assumes nothing.
 --     frame_inside               the frame at a place of memory is a number that fits
---     does                       what a call does, with the slices that stay lent
 --     refused_so                 a refusal that is passed on is what the clerk sees
+--     name_fits                  a page's name is short enough for a mark
 --     named_scanned              the scan by name gives where the page stands
 --     Named, named, named_passed    what the first checks give, and why
 --     look_refused, look_found   what the look-up makes of it
 --     LooksUp, looks_up, looked_inside    what the look-up gives, and why: a page that it finds has a mark and a word
 --     Live, looked_at, looked_not    what is known of such a page; what the look-up refuses, the call refuses
 --     put_not, put_stopped, put_passed    the first checks of a put, whose third is that the name is live
-use Prim.Native.Nat.{ℕ, ◌+◌, ◌≤◌, ◌<◌, min}
+use Prim.Native.Nat.{ℕ, ◌+◌, ◌%◌, ◌^◌, ◌≤◌, ◌<◌, min}
 use native.Mathlib.Omega.{arith}
 use mathlib.Core.Path.{◌≡◌, refl, sym, ap, subst, ◌∙◌}
 use mathlib.Core.Bool.{true, false, not}
@@ -25,7 +25,7 @@ use Rattle.answer.specs.declared.refusal.Refusal.{Refusal}
 use Rattle.answer.specs.declared.refusal.Refusal.TheVariants.{WrongShape, OutOfRange, NotLive}
 use Rattle.frames.specs.declared.Place.{Place}
 use Rattle.frames.specs.Units.{most_number, frame, place_below}
-use Rattle.frames.specs.Marks.{is_page_of}
+use Rattle.frames.specs.Marks.{mark_of, is_page_of}
 use Rattle.frames.specs.Scans.{marked}
 use Rattle.frames.specs.Tables.{Tables}
 use Rattle.rules.specs.declared.Record.{Record}
@@ -44,13 +44,14 @@ frame_inside {m} k p h =
     let e : min (m.memory.base.0 + p.0) most_number ≡ m.memory.base.0 + p.0 = omega (arith, k.memory.end_high) in
     ap frame e
 
--- the slices lent are those that were lent
-pub does : {A : Type 0} {marks words bitmap owners : A} {P : Type 0} → P → ((marks ≡ marks) × (words ≡ words) × (bitmap ≡ bitmap) × (owners ≡ owners)) × P
-does e = ((refl, refl, refl, refl), e)
-
 pub refused_so : {m : Record} {t : Tables} {o : Outcome} {x : Result Numbers Refusal} {r : Refusal} →
     x ≡ Err r → refuse m t (number_of r) ≡ o → outcome m (answer_of x) t ≡ o
 refused_so {m} {t} e f = ap (λ y. outcome m (answer_of y) t) e ∙ f
+
+pub name_fits : (kind : ℕ) {name mark : ℕ} → name ≤ most_name → mark ≡ mark_of (name % 2 ^ 29) kind → mark ≡ mark_of name kind
+name_fits kind {name} h e =
+    let short : name % 2 ^ 29 ≡ name = omega (arith, h) in
+    e ∙ ap (λ (k : ℕ). mark_of k kind) short
 
 module _ (m : Record) (name : ℕ) (t : Tables) where
   -- where the shape and the name are right, the scan by name finds the page

@@ -81,6 +81,16 @@ impl Kind {
     }
 }
 
+// The length of the body that a byte announces; 0 for a byte that is no kind, since no body is empty.
+pub fn body_length(kind: u8) -> usize
+    ensures { result ≡ body_length kind }
+{
+    match Kind::try_from(kind) {
+        Ok(known) => known.body_length(),
+        Err(_) => 0,
+    }
+}
+
 // The number in the `width` bytes from `at` on, the lowest byte first. Every width is read by this loop, from the highest byte down.
 fn number(bytes: &[u8], at: usize, width: usize) -> u64
     requires { (at + width ≤ length bytes.now) × (width ≤ 8) }

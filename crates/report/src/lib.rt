@@ -4,20 +4,21 @@
 // The lines go to the caller's buffer when all are known, and only where all have room.
 #![tactic(auto)]
 
-ghost use Rattle.std.specs.Prelude.{◌+◌, ◌*◌, ◌≤◌, ◌≡◌, ◌++◌, length};
+ghost use Rattle.std.specs.Prelude.{◌+◌, ◌*◌, ◌≤◌, ◌≡◌, [], ◌++◌, length};
 ghost use Rattle.search.specs.Search.{longest};
 ghost use Rattle.bitmap.specs.Bits.{is_clear};
 ghost use Rattle.frames.specs.Areas.{per_bit, bit_count};
-ghost use Rattle.frames.specs.Lent.{tables_in};
+ghost use Rattle.frames.specs.Lent.{tables_read};
+ghost use Rattle.frames.specs.Tables.{tables};
 ghost use Rattle.text.specs.Writing.{Appends};
-ghost use Rattle.rules.specs.Does.{record_in, Answers};
+ghost use Rattle.rules.specs.Does.{record_in, AnswersOn};
 ghost use Rattle.rules.specs.Limits.{most_areas, most_frames, most_block_order};
 ghost use Rattle.rules.specs.Report.{total_label, free_label, amount_line, area_line, report_of, report, reported};
 ghost use Rattle.report.specs.Steps.Listing.{Bounded, Lists, PutWhole};
 
 use answer::{Numbers, Refusal};
 use bitmap::Bitmap;
-use frames::{Area, LentTables, area_at, count_granted, place_of};
+use frames::{Area, ReadTables, area_at, count_granted, place_of};
 use rules::LentRecord;
 use shape::shape_right;
 use text::writing::{Writer, has_room};
@@ -66,9 +67,9 @@ fn max_chunk(area: Area, bitmap: Bitmap) -> u64
 }
 
 // The areas' lines, and the sums over all areas.
-fn list_areas(lent: LentRecord, tables: &LentTables, lines: &mut Writer) -> Totals
+fn list_areas(lent: LentRecord, marks: &[u32], bitmap: &[u64], lines: &mut Writer) -> Totals
     requires { Bounded lent.memory lent.areas.now × (lines.old.length ≡ 0) × (length lines.old.buffer.now ≡ LINES) }
-    ensures { Lists (record_in lent.entry) (tables_in tables.now) lent.entry.memory.declared lines.old lines.new result }
+    ensures { Lists (record_in lent.entry) (tables marks.now [] bitmap.now []) lent.entry.memory.declared lines.old lines.new result }
 {
     let mut total = 0;
     let mut free = 0;
@@ -76,8 +77,8 @@ fn list_areas(lent: LentRecord, tables: &LentTables, lines: &mut Writer) -> Tota
     for i in 0..lent.memory.declared as usize {
         let area = area_at(lent.areas, i);
         let first = place_of(lent.memory.base, area.base);
-        let used = count_granted(tables.marks, first, area.count);
-        let words: &[u64] = tables.bitmap;
+        let used = count_granted(marks, first, area.count);
+        let words = bitmap;
         let chunk = max_chunk(area, Bitmap { words, start });
         put_area(lines, i as u64, area.count, used, chunk);
         total += area.count;
@@ -110,16 +111,16 @@ fn put_sums(out: &mut Writer, sums: Totals)
 }
 
 // The report at the front of a buffer, and its length, where it has room for it.
-fn put_report(lent: LentRecord, tables: &LentTables, buffer: &mut [u8]) -> Option<usize>
+fn put_report(lent: LentRecord, marks: &[u32], bitmap: &[u64], buffer: &mut [u8]) -> Option<usize>
     requires { Bounded lent.memory lent.areas.now }
-    ensures { PutWhole (report_of (record_in lent.entry) (tables_in tables.now)) buffer.old buffer.new result }
+    ensures { PutWhole (report_of (record_in lent.entry) (tables marks.now [] bitmap.now [])) buffer.old buffer.new result }
 {
     let mut lines = [0u8; LINES];
     let mut listed = Writer {
         buffer: &mut lines,
         length: 0,
     };
-    let sums = list_areas(lent, tables, &mut listed);
+    let sums = list_areas(lent, marks, bitmap, &mut listed);
     let lines_length = listed.length;
     let mut head = [0u8; SUMS];
     let mut summed = Writer {
@@ -132,14 +133,15 @@ fn put_report(lent: LentRecord, tables: &LentTables, buffer: &mut [u8]) -> Optio
 }
 
 // The report is written to the front of a buffer that has room for it, and answers its length.
-pub fn report(lent: LentRecord, tables: &LentTables, buffer: &mut [u8]) -> Result<Numbers, Refusal>
-    ensures answers { Answers (λ m. report m buffer.old) lent.entry result tables.now tables.now }
-    ensures buffer_after { buffer.new ≡ reported (record_in lent.entry) buffer.old (tables_in tables.now) }
+pub fn report(lent: LentRecord, tables: ReadTables, buffer: &mut [u8]) -> Result<Numbers, Refusal>
+    ensures answers { AnswersOn (λ m. report m buffer.old) lent.entry result (tables_read tables.entry) (tables_read tables.entry) }
+    ensures buffer_after { buffer.new ≡ reported (record_in lent.entry) buffer.old (tables_read tables.entry) }
 {
     if !shape_right(lent, tables) {
         return Err(Refusal::WrongShape);
     }
-    let length = put_report(lent, tables, buffer).ok_or(Refusal::BufferTooShort)?;
+    let told = put_report(lent, tables.marks, tables.bitmap, buffer);
+    let length = told.ok_or(Refusal::BufferTooShort)?;
     Ok(Numbers {
         first: length as u64,
         second: 0,

@@ -22,17 +22,24 @@ record_with memory areas = record { memory = memory; areas = areas }
 abbrev pub record_in : LentRecord → Record
 record_in m = record_with m.memory m.areas.now
 
--- a function that hands back an answer alone does what a call does: the record stays
-abbrev pub Answers : (Record → Tables → Outcome) → LentRecord → Result Numbers Refusal → LentTables → LentTables → Type 0
-Answers call m r before after =
-    SameSlices before after × (outcome (record_in m) (answer_of r) (tables_in after) ≡ call (record_in m) (tables_in before))
+-- a function that hands back an answer alone does what a call does, from some tables to others: the record stays
+abbrev pub AnswersOn : (Record → Tables → Outcome) → LentRecord → Result Numbers Refusal → Tables → Tables → Type 0
+AnswersOn call m r before after = outcome (record_in m) (answer_of r) after ≡ call (record_in m) before
 
--- a function that hands back a memory, or leaves it where it is refused, does what a call does: the areas' numbers of the record stand where they
--- were lent
+-- the same of the tables that are lent to it as one
+abbrev pub Answers : (Record → Tables → Outcome) → LentRecord → Result Numbers Refusal → LentTables → LentTables → Type 0
+Answers call m r before after = SameSlices before after × AnswersOn call m r (tables_in before) (tables_in after)
+
+-- a function that hands back a memory, or leaves it where it is refused, does what a call does, from some tables to others: the areas' numbers of the
+-- record stand where they were lent
+abbrev pub ReturnsOn : (Record → Tables → Outcome) → Memory → List ℕ → Memory → List ℕ → Answer → Tables → Tables → Type 0
+ReturnsOn call memory areas memory_after areas_after answer before after =
+    outcome (record_with memory_after areas_after) answer after ≡ call (record_with memory areas) before
+
+-- the same of the tables that are lent to it as one
 abbrev pub Returns : (Record → Tables → Outcome) → Memory → List ℕ → Memory → List ℕ → Answer → LentTables → LentTables → Type 0
 Returns call memory areas memory_after areas_after answer before after =
-    SameSlices before after ×
-    (outcome (record_with memory_after areas_after) answer (tables_in after) ≡ call (record_with memory areas) (tables_in before))
+    SameSlices before after × ReturnsOn call memory areas memory_after areas_after answer (tables_in before) (tables_in after)
 
 -- the numbers lent are those of all areas
 abbrev pub has_all_areas : Record → Bool

@@ -3,11 +3,10 @@
 #![tactic(auto)]
 
 ghost use Rattle.std.specs.Prelude.{◌≡◌};
-ghost use Rattle.answer.specs.Answers.{answer_at};
 ghost use Rattle.rules.specs.Counters.{no_grants, after_grant, after_boot, since};
 ghost use Rattle.rules.specs.Record.{fresh_record};
 
-use answer::{Numbers, Refusal, Refused};
+use answer::Refusal;
 use frames::{Area, Frame};
 
 // What a record says of memory, but for its areas' numbers.
@@ -105,37 +104,34 @@ impl Counters {
         Self::default()
     }
 
-    // After a grant that was answered so.
+    // After a grant that was answered with this number, 0 where it is done. It is the number that an answer has, of whatever refusal.
     #[tactic(auto, unfolding(crate::specs::Counters::after_grant))]
-    pub fn after_grant(self, answer: Result<Numbers, Refused>) -> Self
-        ensures { result ≡ after_grant (answer_at answer).refusal self }
+    pub fn after_grant(self, number: u64) -> Self
+        ensures { result ≡ after_grant number self }
     {
-        match answer {
-            Ok(_) => Self {
+        if number == 0 {
+            return Self {
                 granted: self.granted.wrapping_add(1),
                 ..self
-            },
-            Err(
-                Refused {
-                    refusal: Refusal::WrongShape,
-                    ..
-                },
-            ) => self,
-            Err(_) => Self {
-                refused: self.refused.wrapping_add(1),
-                ..self
-            },
+            };
+        }
+        if number == Refusal::WrongShape as u64 {
+            return self;
+        }
+        Self {
+            refused: self.refused.wrapping_add(1),
+            ..self
         }
     }
 
-    // After a boot that was answered so.
-    pub fn after_boot(self, answer: Result<Numbers, Refused>) -> Self
-        ensures { result ≡ after_boot (answer_at answer).refusal self }
+    // After a boot that was answered with this number.
+    pub fn after_boot(self, number: u64) -> Self
+        ensures { result ≡ after_boot number self }
     {
-        match answer {
-            Ok(_) => Counters::zero(),
-            Err(_) => self,
+        if number == 0 {
+            return Counters::zero();
         }
+        self
     }
 }
 

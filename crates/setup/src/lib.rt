@@ -5,9 +5,9 @@
 ghost use Rattle.std.specs.Prelude.{◌≡◌, ◌≤◌, length};
 ghost use Rattle.answer.specs.Answers.{answer_of, answer_at};
 ghost use Rattle.frames.specs.Areas.{word_count, first_word};
-ghost use Rattle.frames.specs.Tables.{fill};
+ghost use Rattle.frames.specs.Tables.{fill, tables};
 ghost use Rattle.rules.specs.declared.Memory.{Memory as RecordMemory};
-ghost use Rattle.rules.specs.Does.{Returns, with_all_areas};
+ghost use Rattle.rules.specs.Does.{Returns, ReturnsOn, with_all_areas};
 ghost use Rattle.rules.specs.Declare.{declare};
 ghost use Rattle.rules.specs.Boot.{boot};
 ghost use Rattle.setup.specs.Laid.{memory_after, numbers_in};
@@ -19,7 +19,7 @@ mod start;
 mod units;
 
 use answer::{Numbers, Refusal, Refused};
-use frames::{Area, Frame, LentTables, fill, first_word};
+use frames::{Area, Frame, LentTables, ReadTables, fill, first_word};
 use plan::{plan_area, with_area};
 use rules::{LentRecord, Memory, Record, Request};
 use shape::shape_right;
@@ -43,14 +43,17 @@ fn clear_words(lent: LentRecord, bitmap: &mut [u64], area: Area)
 }
 
 // A new area, where the request says or at the highest place that it can have. Its bitmap words become 0. The numbers of all areas are to be
-// lent, since those of the new one are written among them.
+// lent, since those of the new one are written among them. Of the tables it changes the bitmap alone, so they are lent one by one.
 pub fn declare(
     memory: Memory,
     areas: &mut [u64],
-    tables: &mut LentTables,
+    marks: &[u32],
+    words: &[u64],
+    bitmap: &mut [u64],
+    owners: &[u32],
     request: Request,
 ) -> Result<Laid, Refusal>
-    ensures { Returns (with_all_areas (λ m. declare m request)) memory areas.old (memory_after memory result) areas.new (answer_of (numbers_in result)) tables.old tables.new }
+    ensures { ReturnsOn (with_all_areas (λ m. declare m request)) memory areas.old (memory_after memory result) areas.new (answer_of (numbers_in result)) (tables marks.now words.now bitmap.old owners.now) (tables marks.now words.now bitmap.new owners.now) }
 {
     if areas.len() != Record::AREA_NUMBERS {
         return Err(Refusal::WrongShape);
@@ -59,11 +62,15 @@ pub fn declare(
         memory,
         areas: &*areas,
     };
+    let tables = ReadTables {
+        marks,
+        words,
+        bitmap: &*bitmap,
+        owners,
+    };
     if !shape_right(lent, tables) {
         return Err(Refusal::WrongShape);
     }
-    let marks = &mut *tables.marks;
-    let bitmap = &mut *tables.bitmap;
     let area = plan_area(lent, marks, bitmap, request)?;
     clear_words(lent, bitmap, area);
     Ok(Laid {
@@ -92,7 +99,7 @@ pub fn boot(
         block_order,
         declared: 0,
     };
-    if !is_bootable(bare, areas, tables) {
+    if !is_bootable(bare, areas, tables.read()) {
         return Err(Refused::from(Refusal::WrongShape));
     }
     // The new record's areas are planned in numbers of their own: a refusal changes none that were lent.

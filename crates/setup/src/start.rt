@@ -1,6 +1,6 @@
 // What a boot comes to before any table is changed: a record from three numbers and a regions text.
 ghost use Rattle.std.specs.Prelude.{◌≡◌, ◌&&◌, length};
-ghost use Rattle.frames.specs.Lent.{tables_in};
+ghost use Rattle.frames.specs.Lent.{tables_read};
 ghost use Rattle.regions.specs.Steps.Progress.{held};
 ghost use Rattle.rules.specs.Shape.{memory_right, lengths_right};
 ghost use Rattle.rules.specs.Does.{record_with, has_all_areas};
@@ -8,8 +8,8 @@ ghost use Rattle.rules.specs.Boot.{request_of, declare_all, boot_record};
 ghost use Rattle.setup.specs.Steps.Boot.{clear_tables, IsBare, Starts};
 
 use crate::plan::{plan_area, with_area};
-use answer::{Refusal, Refused};
-use frames::LentTables;
+use answer::Refused;
+use frames::ReadTables;
 use regions::{Region, Regions, read_regions};
 use rules::{LentRecord, Memory, Record, Request};
 use shape::{lengths_right, memory_right};
@@ -30,8 +30,8 @@ fn request_of(region: Region) -> Request
 
 // The memory keeps to its limits, the numbers of all areas are lent, and marks, words and owners have an entry for each frame.
 // What is asked is no record yet, so memory and areas come apart.
-pub(crate) fn is_bootable(memory: Memory, areas: &[u64], tables: &LentTables) -> bool
-    ensures { result ≡ (has_all_areas (record_with memory areas.now) && (memory_right memory.base.0 memory.frames memory.block_order && lengths_right memory.frames (tables_in tables.now))) }
+pub(crate) fn is_bootable(memory: Memory, areas: &[u64], tables: ReadTables) -> bool
+    ensures { result ≡ (has_all_areas (record_with memory areas.now) && (memory_right memory.base.0 memory.frames memory.block_order && lengths_right memory.frames (tables_read tables.entry))) }
 {
     areas.len() == Record::AREA_NUMBERS
         && memory_right(memory.base, memory.frames, memory.block_order)

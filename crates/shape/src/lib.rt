@@ -5,13 +5,13 @@
 ghost use Rattle.std.specs.Prelude.{◌+◌, ◌^◌, ◌≤◌, ◌≡◌, true};
 ghost use Rattle.search.specs.Search.{every};
 ghost use Rattle.frames.specs.Areas.{is_multiple, area_in, end_of, are_disjoint};
-ghost use Rattle.frames.specs.Lent.{tables_in};
+ghost use Rattle.frames.specs.Lent.{tables_read};
 ghost use Rattle.rules.specs.Limits.{most_end, most_block_order};
 ghost use Rattle.rules.specs.Shape.{memory_right, lengths_right, area_right, area_fits, shape_right};
 ghost use Rattle.rules.specs.Does.{record_in};
 ghost use Rattle.shape.specs.Steps.Rooms.{lies_in, IsFree, PartBeside, Surrounds, Tells};
 
-use frames::{Area, Frame, LentTables, area_at, first_word};
+use frames::{Area, Frame, ReadTables, area_at, first_word};
 use rules::{LentRecord, Memory, Record};
 
 // Room for areas: frames in a row that none passed so far holds, the first, and the one after the last.
@@ -33,17 +33,15 @@ pub fn memory_right(base: Frame, frames: u64, block_order: u64) -> bool
         && block_order <= Record::MOST_BLOCK_ORDER
 }
 
-// Two areas share no frame. An end may lie past the largest number, so none is computed.
+// Two areas share no frame. An end may lie past the largest number, so none is computed. Which begins first is asked once, and as `past_other`
+// asks it, so that the compiler asks once for both; that they begin together is asked where all else fails.
 fn apart(a: Area, c: Area) -> bool
     ensures { result ≡ are_disjoint a c }
 {
-    if a.base.0 < c.base.0 {
-        return a.count <= c.base.0 - a.base.0;
+    if a.base.0 <= c.base.0 {
+        return a.count <= c.base.0 - a.base.0 || a.base.0 == c.base.0 && c.count == 0;
     }
-    if c.base.0 < a.base.0 {
-        return c.count <= a.base.0 - c.base.0;
-    }
-    a.count == 0 || c.count == 0
+    c.count <= a.base.0 - c.base.0
 }
 
 // A number of frames is whole blocks of an order.
@@ -121,7 +119,8 @@ fn room_around(areas: &[u64], i: usize, a: Area, all: Room) -> Option<Room>
     ensures { Surrounds areas.now i result }
 {
     let mut room = all;
-    for k in 0..i {
+    // Area i has a frame, so all numbers of those before it are there: the bound changes nothing, but the compiler tests no length for each of them.
+    for k in 0..i.min(areas.len() / Area::NUMBERS) {
         let other = area_at(areas, k);
         if !apart(other, a) {
             return None;
@@ -172,8 +171,8 @@ fn areas_fit(lent: LentRecord) -> bool
 }
 
 // Marks, words and owners have an entry for each frame.
-pub fn lengths_right(frames: u64, tables: &LentTables) -> bool
-    ensures { result ≡ lengths_right frames (tables_in tables.now) }
+pub fn lengths_right(frames: u64, tables: ReadTables) -> bool
+    ensures { result ≡ lengths_right frames (tables_read tables.entry) }
 {
     tables.marks.len() as u64 == frames
         && tables.words.len() as u64 == frames
@@ -182,8 +181,8 @@ pub fn lengths_right(frames: u64, tables: &LentTables) -> bool
 
 // Whether a record has the shape that every call but boot asks, with these tables. The tests return one by one, since the next rests on the one before:
 // areas are judged in a memory that keeps to its limits, and their words are counted where they fit.
-pub fn shape_right(lent: LentRecord, tables: &LentTables) -> bool
-    ensures { result ≡ shape_right (record_in lent.entry) (tables_in tables.now) }
+pub fn shape_right(lent: LentRecord, tables: ReadTables) -> bool
+    ensures { result ≡ shape_right (record_in lent.entry) (tables_read tables.entry) }
 {
     let memory = lent.memory;
     if !memory_right(memory.base, memory.frames, memory.block_order) {

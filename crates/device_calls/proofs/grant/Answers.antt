@@ -9,4 +9,4 @@ use Rattle.device_calls.proofs.grant.Goals as goal
 pub returns-in_err-check_grant : goal.returns-in_err-check_grant
 returns-in_err-check_grant c =
     let same : answer_of c.from_residual.result ≡ refused (number_of c.in_err-check_grant.field-0.0) = search rules in
-    ((refl, refl, refl, refl), returns_it same (grant_refused _ _ _ _ _ _ c.in_err-check_grant.ensures))
+    ((refl, refl, refl, refl), returns_it same (grant_refused _ _ _ _ _ _ (rw c.read.ensures at c.in_err-check_grant.ensures)))

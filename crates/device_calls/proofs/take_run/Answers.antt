@@ -2,15 +2,12 @@
 use Prim.Native.Nat.{ℕ}
 use native.Mathlib.Omega.{arith}
 use mathlib.Core.Path.{sym, ap, subst, ◌∙◌}
-use lib.ListN.{length}
 use Rattle.frames.specs.declared.Area.{Area}
 use Rattle.frames.specs.declared.Place.{Place}
 use Rattle.frames.specs.Areas.{bits_for}
 use Rattle.frames.specs.Lent.{tables_in}
-use Rattle.frames.specs.Tables.{Tables}
 use Rattle.rules.specs.Does.{record_in}
 use Rattle.device_calls.specs.Steps.DeviceSteps.{LeavesArea}
-use Rattle.device_calls.proofs.MoveFacts.{out_keeps}
 use Rattle.device_calls.proofs.GrantOutcomes.{taken, run_known, run_placed}
 use Rattle.device_calls.proofs.take_run.Goals as goal
 
@@ -41,11 +38,8 @@ mark_run-requires c =
     let r = c.args.request in
     let k = run_known m t r.area r.count c.args.run c.requires.run in
     let n = ap (λ (q : Place). q.0) (run_placed m t r.area r.count c.args.run c.area_at-a.ensures c.frame_of_bit.ensures c.place_of-page.ensures) in
-    let kept = out_keeps m r.area t c.place_of-page.result r.count in
-    let marks = ap (λ (u : Tables). length u.marks) c.move_out.ensures.out ∙ kept.marks_length in
-    let words = ap (λ (u : Tables). length u.words) c.move_out.ensures.out ∙ kept.words_length in
     let some = c.requires.run.positive in
-    (some, k.count_high, omega (arith, n, some, k.leaves.room, k.marks_length, marks), omega (arith, n, some, k.leaves.room, k.words_length, words))
+    (some, k.count_high, omega (arith, n, some, k.leaves.room, k.marks_length), omega (arith, n, some, k.leaves.room, k.words_length))
 
 pub returns-clause-taken : goal.returns-clause-taken
 returns-clause-taken c =
@@ -54,5 +48,5 @@ returns-clause-taken c =
     let m = record_in x.lent in
     let t = tables_in x.tables.now in
     let placed = run_placed m t r.area r.count x.run c.area_at-a.ensures c.frame_of_bit.ensures c.place_of-page.ensures in
-    taken m t r.area r.count x.run r.device placed c.move_out.ensures.out c.mark_run.ensures.marked
+    taken m t r.area r.count x.run r.device placed c.move_out.ensures c.mark_run.ensures
     c.bitmap_start-start.ensures (c.bits_for-bits.ensures ∙ ap (λ (a : Area). bits_for a r.count) c.area_at-a.ensures) c.put_run.ensures c.fill.ensures

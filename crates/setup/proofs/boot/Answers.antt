@@ -11,7 +11,7 @@ returns-then-not-is_bootable c =
     let x = c.args in
     λ memory.
     rw c.from.ensures
-    ((refl, refl, refl, refl), boot_wrong (record_with memory x.areas.now) x.base.0 x.frames x.block_order x.text.now (tables_in x.tables.now) c.is_bootable.ensures c.if-not-is_bootable.true)
+    ((refl, refl, refl, refl), boot_wrong (record_with memory x.areas.now) x.base.0 x.frames x.block_order x.text.now (tables_in x.tables.now) (rw c.read.ensures at c.is_bootable.ensures) c.if-not-is_bootable.true)
 
 pub returns-in_err-memory : goal.returns-in_err-memory
 returns-in_err-memory c =
@@ -20,7 +20,7 @@ returns-in_err-memory c =
     let gives : c.from_residual.result ≡ Err e = search rules in
     λ memory.
     rw gives
-    ((refl, refl, refl, refl), boot_refused (record_with memory x.areas.now) x.base.0 x.frames x.block_order x.text.now (tables_in x.tables.now) c.is_bootable.ensures c.if-not-is_bootable.false _ e c.in_err-memory.ensures)
+    ((refl, refl, refl, refl), boot_refused (record_with memory x.areas.now) x.base.0 x.frames x.block_order x.text.now (tables_in x.tables.now) (rw c.read.ensures at c.is_bootable.ensures) c.if-not-is_bootable.false _ e c.in_err-memory.ensures)
 
 pub returns : goal.returns
 returns c =
@@ -28,5 +28,5 @@ returns c =
     λ memory. (
       (refl, refl, refl, refl),
       rw (c.copy_from_slice.ensures.after, c.fill.ensures.after (λ y h. h), c.fill-2.ensures.after (λ y h. h), c.fill-3.ensures.after (λ y h. h), c.fill-4.ensures.after (λ y h. h))
-          (boot_done (record_with memory x.areas.now) x.base.0 x.frames x.block_order x.text.now (tables_in x.tables.now) c.is_bootable.ensures c.if-not-is_bootable.false _ c.in_ok-memory.memory c.in_ok-memory.ensures),
+          (boot_done (record_with memory x.areas.now) x.base.0 x.frames x.block_order x.text.now (tables_in x.tables.now) (rw c.read.ensures at c.is_bootable.ensures) c.if-not-is_bootable.false _ c.in_ok-memory.memory c.in_ok-memory.ensures),
     )

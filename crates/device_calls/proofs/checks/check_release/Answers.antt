@@ -3,7 +3,7 @@ use borrow.Author.Rules.{rules}
 use mathlib.Core.Path.{sym, ap, ◌∙◌}
 use mathlib.Core.Bool.{not}
 use Rattle.search.proofs.Bools.{or_left}
-use Rattle.frames.specs.Lent.{tables_in}
+use Rattle.frames.specs.Lent.{tables_read}
 use Rattle.rules.specs.Does.{record_in}
 use Rattle.device_calls.proofs.DeviceOutcomes.{place_below}
 use Rattle.device_calls.proofs.ReleaseOutcomes.{ranged}
@@ -20,7 +20,7 @@ returns-then-is_bad_release c = there (sym (ap not c.shape_right.ensures) ∙ ap
 pub is_no_head-requires : goal.is_no_head-requires
 is_no_head-requires c =
     let r = c.args.release in
-    let has = ranged (record_in c.args.lent) r.area r.frame r.count (tables_in c.args.tables.now) (sym c.shape_right.ensures ∙ c.if-not-shape_right.false) (or_left _ _ (sym c.is_bad_release.ensures ∙ c.if-is_bad_release.false)) in
+    let has = ranged (record_in c.args.lent) r.area r.frame r.count (tables_read c.args.tables) (sym c.shape_right.ensures ∙ c.if-not-shape_right.false) (or_left _ _ (sym c.is_bad_release.ensures ∙ c.if-is_bad_release.false)) in
     (place_below c.place_of-page.ensures has.in_marks, rw c.area_at-a.ensures has.order, rw c.area_at-a.ensures has.in_area)
 
 pub returns-then-is_no_head : goal.returns-then-is_no_head
@@ -29,7 +29,7 @@ returns-then-is_no_head c = there (sym (ap not c.shape_right.ensures) ∙ ap not
 pub is_not_owner-requires : goal.is_not_owner-requires
 is_not_owner-requires c =
     let r = c.args.release in
-    let has = ranged (record_in c.args.lent) r.area r.frame r.count (tables_in c.args.tables.now) (sym c.shape_right.ensures ∙ c.if-not-shape_right.false) (or_left _ _ (sym c.is_bad_release.ensures ∙ c.if-is_bad_release.false)) in
+    let has = ranged (record_in c.args.lent) r.area r.frame r.count (tables_read c.args.tables) (sym c.shape_right.ensures ∙ c.if-not-shape_right.false) (or_left _ _ (sym c.is_bad_release.ensures ∙ c.if-is_bad_release.false)) in
     place_below c.place_of-page.ensures has.in_owners
 
 pub returns-then-is_not_owner : goal.returns-then-is_not_owner

@@ -2,10 +2,11 @@
 -- go on. Assumes nothing.
 use native.Mathlib.Omega.{arith}
 use Prim.Native.Nat.{ℕ, min}
-use mathlib.Core.Path.{◌≡◌, refl, ap, subst, ◌∙◌}
+use mathlib.Core.Path.{◌≡◌, refl, ap, subst}
+use mathlib.Core.List.{[]}
 use Rattle.frames.specs.Areas.{most_areas}
 use Rattle.frames.specs.declared.targets.Seeking.{Seeking}
-use Rattle.frames.specs.Lent.{tables_in}
+use Rattle.frames.specs.Tables.{tables}
 use Rattle.frames.specs.Orders.{in_use, Ordered}
 use Rattle.frames.specs.Targets.{NextTarget}
 use Rattle.frames.proofs.TargetFacts.{seeks_start}
@@ -14,19 +15,17 @@ use Rattle.device_calls.proofs.MoveFacts.{not_before, out_none, moving_start, mo
 use Rattle.device_calls.proofs.moves.move_out.Goals as goal
 
 -- no page is to move
-pub returns-then-end-at-clause-out : goal.returns-then-end-at-clause-out
-returns-then-end-at-clause-out c = out_none (record_in c.args.lent) c.args.area (tables_in c.args.tables.now) c.args.page c.args.count _ _ refl c.next_movable-at.ensures c.if-end-at.true
+pub returns-then-end-at : goal.returns-then-end-at
+returns-then-end-at c = out_none (record_in c.args.lent) c.args.area (tables c.args.marks.now c.args.words.now [] []) c.args.page c.args.count _ _ refl c.next_movable-at.ensures c.if-end-at.true
 
 pub loop-at-init : goal.loop-at-init
 loop-at-init c =
     let x = c.args in
     let m = x.lent.memory in
-    let w = c.none-seeking.ensures in (
-      moving_start (record_in x.lent) x.area c.new-areas.result.order (tables_in x.tables.now) _ _ x.page.0 (omega arith) c.next_movable-at.ensures
-          (seeks_start m.base x.lent.areas.now m.declared c.new-areas.result.order x.area x.tables.now.marks.now c.none-seeking.result
-          (ap (λ (t : Seeking). t.ordinary.from.0) w) (ap (λ (t : Seeking). t.ordinary.end.0) w) (ap (λ (t : Seeking). t.ordinary.next) w) (ap (λ (t : Seeking). t.others.from.0) w) (ap (λ (t : Seeking). t.others.next) w)),
-      (refl, refl, refl, refl),
-    )
+    let w = c.none-seeking.ensures in
+    moving_start (record_in x.lent) x.area c.new-areas.result.order (tables x.marks.now x.words.now [] []) _ _ x.page.0 (omega arith) c.next_movable-at.ensures
+    (seeks_start m.base x.lent.areas.now m.declared c.new-areas.result.order x.area x.marks.now c.none-seeking.result
+    (ap (λ (t : Seeking). t.ordinary.from.0) w) (ap (λ (t : Seeking). t.ordinary.end.0) w) (ap (λ (t : Seeking). t.ordinary.next) w) (ap (λ (t : Seeking). t.others.from.0) w) (ap (λ (t : Seeking). t.others.next) w))
 
 pub loop-at-smaller : goal.loop-at-smaller
 loop-at-smaller c = omega (arith, c.loop-at-test.true, not_before _ _ _ c.next_movable-at-in-loop-at.ensures)
@@ -41,18 +40,14 @@ loop-at-preserved c =
     subst (λ (n : ℕ). Ordered x.lent.areas.now (in_use x.lent.areas.now n) order) few c.new-areas.ensures.ordered
     in
     let lent = ap (λ r. r.now) c.new-areas.ensures.areas in
-    let target : NextTarget c.loop-at.tables.marks.now m.base x.lent.areas.now order x.area c.loop-at.seeking c.next_target-seeking.result =
+    let target : NextTarget c.loop-at.marks m.base x.lent.areas.now order x.area c.loop-at.seeking c.next_target-seeking.result =
     rw (← c.new-areas.ensures.base, ← lent) c.next_target-seeking.ensures
     in
-    let v = c.loop-at.invariant.0 in
-    let s = c.loop-at.invariant.1 in
+    let v = c.loop-at.invariant in
     let l = c.loop-at-test.true in
-    let t = c.move_page.ensures.same in
-    let held = c.requires.0.held c.loop-at.at.0 (omega (arith, v.begun, not_before _ _ _ c.next_movable-at.ensures)) l in (
-      moving_turn (record_in x.lent) x.area order (tables_in x.tables.now) _ _ c.requires.0 c.requires.1 ordered v l held c.place.ensures target c.move_page.ensures.moved c.next_movable-at-in-loop-at.ensures,
-      (t.0 ∙ s.0, t.1 ∙ s.1, t.2 ∙ s.2, t.3 ∙ s.3),
-    )
+    let held = c.requires.0.held c.loop-at.at.0 (omega (arith, v.begun, not_before _ _ _ c.next_movable-at.ensures)) l in
+    moving_turn (record_in x.lent) x.area order (tables x.marks.now x.words.now [] []) _ _ c.requires.0 c.requires.1 ordered v l held c.place.ensures target c.move_page.ensures c.next_movable-at-in-loop-at.ensures
 
-pub returns-clause-out : goal.returns-clause-out
-returns-clause-out c =
-    moving_end (record_in c.args.lent) c.args.area c.new-areas.result.order (tables_in c.args.tables.now) _ _ c.args.page c.args.count c.loop-at.invariant.0 c.loop-at-test.false refl c.next_movable-at.ensures
+pub returns : goal.returns
+returns c =
+    moving_end (record_in c.args.lent) c.args.area c.new-areas.result.order (tables c.args.marks.now c.args.words.now [] []) _ _ c.args.page c.args.count c.loop-at.invariant c.loop-at-test.false refl c.next_movable-at.ensures

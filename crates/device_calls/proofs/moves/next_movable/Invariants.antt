@@ -5,4 +5,4 @@ use Rattle.frames.proofs.ScanFacts.{Seeking}
 use Rattle.device_calls.proofs.moves.next_movable.Given as goal
 
 abbrev pub invariant-loop-i : goal.invariant-loop-i
-invariant-loop-i l = Seeking (marked (has_kind movable) l.tables.marks.now) l.initial.i l.end.0 l.i
+invariant-loop-i l = Seeking (marked (has_kind movable) l.marks) l.initial.i l.end.0 l.i

@@ -5,13 +5,14 @@ use native.Mathlib.Omega.{arith}
 use native.Mathlib.Nat.{div-le_self}
 use mathlib.Core.Path.{◌≡◌, refl, ap, ◌∙◌}
 use mathlib.Core.Bool.{true, not}
+use mathlib.Core.List.{[]}
 use lib.Dec.{eqb}
 use Rattle.search.proofs.Bools.{below_or_not}
 use Rattle.bitmap.specs.Bits.{bit_of, is_start}
 use Rattle.frames.specs.Units.{bit}
 use Rattle.frames.specs.declared.Area.{Area}
 use Rattle.frames.specs.Areas.{per_bit, ceiling, bit_count}
-use Rattle.frames.specs.Lent.{tables_in}
+use Rattle.frames.specs.Tables.{tables}
 use Rattle.rules.specs.Limits.{most_frames, most_align_order}
 use Rattle.rules.specs.declared.Record.{Record}
 use Rattle.rules.specs.Record.{area_at}
@@ -50,7 +51,7 @@ may_begin a align order first starts e f st k al =
 pub returns-in_err-last : goal.returns-in_err-last
 returns-in_err-last c =
     let m = record_in c.args.lent in
-    let t = tables_in c.args.tables.now in
+    let t = tables c.args.marks.now [] c.args.bitmap.now [] in
     let r = c.args.request in
     let short : c.bits.result < c.bits_for-bits.result = below_or_not c.bits.result c.bits_for-bits.result (λ h. h) (λ h. absurd (c.in_err-last.ensures h)) in
     c.from_residual.ensures ∙
@@ -61,7 +62,7 @@ returns-in_err-last c =
 pub returns-in_default : goal.returns-in_default
 returns-in_default c =
     let m = record_in c.args.lent in
-    let t = tables_in c.args.tables.now in
+    let t = tables c.args.marks.now [] c.args.bitmap.now [] in
     let r = c.args.request in
     let some = some_bits c.area_at-area.result r.count c.requires.positive in
     let room : c.loop-j.j + c.bits_for-bits.result ≤ bit_count c.area_at-area.result = omega (arith, c.loop-j-test.true, c.bits.ensures, c.in_ok-last.ensures.0, c.in_ok-last.ensures.1) in
@@ -71,7 +72,7 @@ returns-in_default c =
 
 pub loop-j-preserved : goal.loop-j-preserved
 loop-j-preserved c =
-    let t = tables_in c.args.tables.now in
+    let t = tables c.args.marks.now [] c.args.bitmap.now [] in
     let r = c.args.request in
     let a = c.area_at-area.result in
     let order = c.saturating_sub-order.result in
@@ -88,7 +89,7 @@ loop-j-preserved c =
 pub returns : goal.returns
 returns c =
     let m = record_in c.args.lent in
-    let t = tables_in c.args.tables.now in
+    let t = tables c.args.marks.now [] c.args.bitmap.now [] in
     let r = c.args.request in
     run_none m t r.area r.count r.align c.area_at-area.ensures c.bitmap_start.ensures
     (ap bit c.bits.ensures ∙

@@ -10,4 +10,4 @@ returns c =
     let memory : c.map_or-memory.result ≡ memory_after c.args.self.memory c.boot-booted.result = grind (arith, common_steps) in
     let answer : c.map-answer.result ≡ numbers_in c.boot-booted.result = grind (arith, common_steps) in
     let laid = c.boot-booted.ensures c.args.self.memory in
-    ((laid.0, rw (memory, answer) laid.1), c.after_boot-counters.ensures)
+    ((laid.0, rw (memory, answer) laid.1), rw c.from.ensures at c.after_boot-counters.ensures)
