@@ -47,7 +47,7 @@ not_boot memory (Call.Boot base frames block_order) h = absurd (h base frames bl
 not_boot memory Call.Report h = refl
 
 -- no text and no buffer: no bytes
-nothing_beside : (call : Call) → beside call [] [] ≡ []
+pub nothing_beside : (call : Call) → beside call [] [] ≡ []
 nothing_beside call = by_cases (role_of call).is_report (λ e. rw e) (λ e. rw e)
 
 pub bare : (call : Call) (m : Record) (t : Tables) → length m.areas ≡ most_area_numbers → with_all_areas (perform call (beside call [] [])) m t ≡ perform call [] m t

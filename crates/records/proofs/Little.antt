@@ -32,7 +32,7 @@ module _ (s : List ℕ) (byte : (k : ℕ) → get_or s k 0 < 256) where
       let e : 2 ^ (8 * suc n) ≡ 2 ^ (8 * n) * 2 ^ 8 = ap (λ (k : ℕ). 2 ^ k) (omega arith) ∙ pow-add 2 (8 * n) 8 in
       rw (little_more, e) (omega (arith, byte at, little_below (suc at) n))
 
-  little_fits : (at n : ℕ) → n ≤ 8 → little s at n < 2 ^ 64
+  pub little_fits : (at n : ℕ) → n ≤ 8 → little s at n < 2 ^ 64
   little_fits at n h = lt_of_lt_of_le (little_below at n) (pow_mono {i = 8 * n} {j = 64} (omega arith))
 
 -- The bytes that are left of a number are its lowest, and the value is the number in the others.
