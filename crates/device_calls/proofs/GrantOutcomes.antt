@@ -2,6 +2,7 @@
 --     run_placed, taken                 the run's place; the tables after it is taken
 --     run_known                         what is known of a run that lies in an area
 --     grant_refused                     the first checks refuse
+--     is_looked                         the search looks at no words and at no owners
 --     run_is, none_found, run_fits      one can be granted, the one chosen; none can; it lies in the area
 --     nowhere, granted                  the run's pages have nowhere to go; they have
 use Prim.Native.Nat.{ℕ, ◌+◌, ◌-◌, ◌≤◌, ◌<◌}
@@ -171,7 +172,7 @@ module _ (m : Record) (i count align device : ℕ) (t : Tables) where
     abbrev looked : Tables
     looked = tables t.marks [] t.bitmap []
 
-    is_looked : run_for m looked i count align ≡ run_for m t i count align
+    pub is_looked : run_for m looked i count align ≡ run_for m t i count align
     unfolding chosen is_grantable is_candidate
     is_looked = refl
 

@@ -6,6 +6,7 @@
 --     Moving, moving_start, moving_turn, moving_end    a loop that goes from one movable page to the next: what is moved, and where the search for the
 --                              next target can go on
 --     out_others               the bitmap and the owners play no part
+--     Kept, out_keeps          the bitmap and the owners stay, and so do the lengths of the marks and the words
 use Prim.Native.Nat.{ℕ, zero, suc, ◌+◌, ◌-◌, ◌≤◌, ◌<◌}
 use native.Mathlib.Omega.{arith}
 use native.Mathlib.Numerals.{add-one}
@@ -50,6 +51,23 @@ fill_one l i v = fill_suc v l i 0 ∙ fill_none v (set l i v) (suc i)
 
 pub moved_by : (t : Tables) (p q : Place) {ms ws : List ℕ} → ms ≡ fill t.marks q.0 1 (mark_at t p) → ws ≡ fill t.words q.0 1 (word_at t p) → tables (set ms p.0 0) (set ws p.0 0) t.bitmap t.owners ≡ page_moved t p q
 moved_by t p q e f = ap₂ (λ (x y : List ℕ). tables (set x p.0 0) (set y p.0 0) t.bitmap t.owners) (e ∙ fill_one _ _ _) (f ∙ fill_one _ _ _)
+
+-- the bitmap and the owners stay, and the tables keep their lengths
+pub record Kept (t u : Tables) : Type 0 where
+  pub bitmap : u.bitmap ≡ t.bitmap
+  pub owners : u.owners ≡ t.owners
+  pub marks_length : length u.marks ≡ length t.marks
+  pub words_length : length u.words ≡ length t.words
+
+kept_all : (t : Tables) → Kept t t
+kept_all t = record { bitmap = refl; owners = refl; marks_length = refl; words_length = refl }
+
+kept_on : {t u v : Tables} → Kept t u → Kept u v → Kept t v
+kept_on a b =
+    record { bitmap = b.bitmap ∙ a.bitmap; owners = b.owners ∙ a.owners; marks_length = b.marks_length ∙ a.marks_length; words_length = b.words_length ∙ a.words_length }
+
+page_keeps : (t : Tables) (p q : Place) → Kept t (page_moved t p q)
+page_keeps t p q = record { bitmap = refl; owners = refl; marks_length = simp length-set; words_length = simp length-set }
 
 -- ---- where a page goes
 
@@ -179,6 +197,14 @@ module _ (m : Record) (i : ℕ) where
     out_others t p (suc d) =
         ap (λ (x : Tables). beside x) (out_suc t p d) ∙ out_others (move_page m t i p) (place (suc p.0)) d ∙
         ap (λ (x : Tables). move_out m x i (place (suc p.0)) d) (move_others t p) ∙ sym (out_suc (beside t) p d)
+
+  -- ---- what stays as pages move
+  move_keeps : (t : Tables) (p : Place) → Kept t (move_page m t i p)
+  move_keeps t p = by_cases (moves t p.0) (λ e. rw (goes t p e) (page_keeps t p (first_target m t i))) (λ e. rw (stays t p e) (kept_all t))
+
+  pub out_keeps : (t : Tables) (p : Place) (d : ℕ) → Kept t (move_out m t i p d)
+  out_keeps t p zero = rw (out_zero t p) (kept_all t)
+  out_keeps t p (suc d) = rw (out_suc t p d) (kept_on (move_keeps t p) (out_keeps (move_page m t i p) (place (suc p.0)) d))
 
 -- ---- a loop over the movable pages of a run, from its first movable place on
 module _ (m : Record) (i : ℕ) (order : Order) (t₀ : Tables) (first end : ℕ) where
