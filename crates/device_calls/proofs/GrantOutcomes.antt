@@ -1,8 +1,8 @@
 -- What a grant does, from what its checks and its search found. Assumes nothing.
 --     run_placed, taken                 the run's place; the tables after it is taken
 --     run_known                         what is known of a run that lies in an area
+--     run_looks                         the search looks at no words and at no owners
 --     grant_refused                     the first checks refuse
---     is_looked                         the search looks at no words and at no owners
 --     run_is, none_found, run_fits      one can be granted, the one chosen; none can; it lies in the area
 --     nowhere, granted                  the run's pages have nowhere to go; they have
 use Prim.Native.Nat.{ℕ, ◌+◌, ◌-◌, ◌≤◌, ◌<◌}
@@ -113,6 +113,14 @@ module _ (m : Record) (t : Tables) (i count : ℕ) (j : Bit) where
         words_length = k.words_length;
       }
 
+-- ---- the search for a run looks at no words and at no owners
+abbrev looked : Tables → Tables
+looked t = tables t.marks [] t.bitmap []
+
+pub run_looks : (m : Record) (t : Tables) (i count align : ℕ) → run_for m (looked t) i count align ≡ run_for m t i count align
+unfolding chosen is_grantable is_candidate
+run_looks m t i count align = refl
+
 module _ (m : Record) (i count align device : ℕ) (t : Tables) where
   -- ---- the checks before a run is looked for
   widened : {n : ℕ} → First (take 2 (grant_checks m i count align device t)) n → First (grant_checks m i count align device t) n
@@ -165,34 +173,27 @@ module _ (m : Record) (i count align device : ℕ) (t : Tables) where
           words_high = omega (arith, first_word_exact m t shaped i (let h : i ≤ m.memory.declared = omega (arith, known) in h));
         }
 
-    -- ---- the search, which looks at no words and at no owners
+    -- ---- the search
     abbrev all : ℕ
     all = bit_count (area_at m i)
 
-    abbrev looked : Tables
-    looked = tables t.marks [] t.bitmap []
-
-    pub is_looked : run_for m looked i count align ≡ run_for m t i count align
-    unfolding chosen is_grantable is_candidate
-    is_looked = refl
-
     -- where it finds a bit, that is the one chosen
-    pub run_is : {r : Bit} → Some r ≡ run_for m looked i count align → (r ≡ chosen m t i count align) × (r.0 < all)
+    pub run_is : {r : Bit} → Some r ≡ run_for m (looked t) i count align → (r ≡ chosen m t i count align) × (r.0 < all)
     run_is {r} e =
         let j = chosen m t i count align in
         by_cases (ltb j.0 all)
         (λ y.
-        let same : Some r ≡ Some j = e ∙ is_looked ∙ rw y in
+        let same : Some r ≡ Some j = e ∙ run_looks m t i count align ∙ rw y in
         let is : r ≡ j = cc in
         (is, subst (λ (x : Bit). x.0 < all) (sym is) (ltb-true j.0 all y)))
-        (λ n. let same : Some r ≡ None = e ∙ is_looked ∙ rw n in cc)
+        (λ n. let same : Some r ≡ None = e ∙ run_looks m t i count align ∙ rw n in cc)
 
-    pub none_found : None ≡ run_for m looked i count align → grant m i count align device t ≡ refuse m t 7
+    pub none_found : None ≡ run_for m (looked t) i count align → grant m i count align device t ≡ refuse m t 7
     unfolding grant
     none_found e =
         let j = chosen m t i count align in
         below_or_not j.0 all
-        (λ h. let same : None ≡ Some j = e ∙ is_looked ∙ rw (lt-ltb j.0 all h) in cc)
+        (λ h. let same : None ≡ Some j = e ∙ run_looks m t i count align ∙ rw (lt-ltb j.0 all h) in cc)
         (λ h. checked_pass m t _ _ _ passed.0 ∙ checked_pass m t _ _ _ passed.1.0 ∙ checked_stop m t _ _ _ (le-leb all j.0 h))
 
     module _ {r : Bit} (e : r ≡ chosen m t i count align) where

@@ -52,23 +52,6 @@ fill_one l i v = fill_suc v l i 0 ∙ fill_none v (set l i v) (suc i)
 pub moved_by : (t : Tables) (p q : Place) {ms ws : List ℕ} → ms ≡ fill t.marks q.0 1 (mark_at t p) → ws ≡ fill t.words q.0 1 (word_at t p) → tables (set ms p.0 0) (set ws p.0 0) t.bitmap t.owners ≡ page_moved t p q
 moved_by t p q e f = ap₂ (λ (x y : List ℕ). tables (set x p.0 0) (set y p.0 0) t.bitmap t.owners) (e ∙ fill_one _ _ _) (f ∙ fill_one _ _ _)
 
--- the bitmap and the owners stay, and the tables keep their lengths
-pub record Kept (t u : Tables) : Type 0 where
-  pub bitmap : u.bitmap ≡ t.bitmap
-  pub owners : u.owners ≡ t.owners
-  pub marks_length : length u.marks ≡ length t.marks
-  pub words_length : length u.words ≡ length t.words
-
-kept_all : (t : Tables) → Kept t t
-kept_all t = record { bitmap = refl; owners = refl; marks_length = refl; words_length = refl }
-
-kept_on : {t u v : Tables} → Kept t u → Kept u v → Kept t v
-kept_on a b =
-    record { bitmap = b.bitmap ∙ a.bitmap; owners = b.owners ∙ a.owners; marks_length = b.marks_length ∙ a.marks_length; words_length = b.words_length ∙ a.words_length }
-
-page_keeps : (t : Tables) (p q : Place) → Kept t (page_moved t p q)
-page_keeps t p q = record { bitmap = refl; owners = refl; marks_length = simp length-set; words_length = simp length-set }
-
 -- ---- where a page goes
 
 -- one of two places, by a test
@@ -138,6 +121,13 @@ moves t = marked (has_kind movable) t.marks
 pub not_before : (test : ℕ → Bool) (i d : ℕ) {r : ℕ} → r ≡ lowest_from test i d → i ≤ r
 not_before test i d e = omega (arith, (lowest_least test i d).low)
 
+-- the bitmap and the owners stay, and the tables keep their lengths
+pub record Kept (t u : Tables) : Type 0 where
+  pub bitmap : u.bitmap ≡ t.bitmap
+  pub owners : u.owners ≡ t.owners
+  pub marks_length : length u.marks ≡ length t.marks
+  pub words_length : length u.words ≡ length t.words
+
 module _ (m : Record) (i : ℕ) where
   module _ (t : Tables) (p : Place) where
     stays : moves t p.0 ≡ false → move_page m t i p ≡ t
@@ -199,12 +189,24 @@ module _ (m : Record) (i : ℕ) where
         ap (λ (x : Tables). move_out m x i (place (suc p.0)) d) (move_others t p) ∙ sym (out_suc (beside t) p d)
 
   -- ---- what stays as pages move
-  move_keeps : (t : Tables) (p : Place) → Kept t (move_page m t i p)
-  move_keeps t p = by_cases (moves t p.0) (λ e. rw (goes t p e) (page_keeps t p (first_target m t i))) (λ e. rw (stays t p e) (kept_all t))
+  abbrev SameLengths : Tables → Tables → Type 0
+  SameLengths t u = (length u.marks ≡ length t.marks) × (length u.words ≡ length t.words)
+
+  move_lengths : (t : Tables) (p : Place) → SameLengths t (move_page m t i p)
+  move_lengths t p = by_cases (moves t p.0) (λ e. rw (goes t p e) (simp length-set, simp length-set)) (λ e. rw (stays t p e) (refl, refl))
+
+  out_lengths : (t : Tables) (p : Place) (d : ℕ) → SameLengths t (move_out m t i p d)
+  out_lengths t p zero = rw (out_zero t p) (refl, refl)
+  out_lengths t p (suc d) =
+      let one = move_lengths t p in
+      let rest = out_lengths (move_page m t i p) (place (suc p.0)) d in
+      rw (out_suc t p d) (rest.0 ∙ one.0, rest.1 ∙ one.1)
 
   pub out_keeps : (t : Tables) (p : Place) (d : ℕ) → Kept t (move_out m t i p d)
-  out_keeps t p zero = rw (out_zero t p) (kept_all t)
-  out_keeps t p (suc d) = rw (out_suc t p d) (kept_on (move_keeps t p) (out_keeps (move_page m t i p) (place (suc p.0)) d))
+  out_keeps t p d =
+      let same = out_others t.bitmap t.owners t p d in
+      let long = out_lengths t p d in
+      record { bitmap = sym (ap (λ (x : Tables). x.bitmap) same); owners = sym (ap (λ (x : Tables). x.owners) same); marks_length = long.0; words_length = long.1 }
 
 -- ---- a loop over the movable pages of a run, from its first movable place on
 module _ (m : Record) (i : ℕ) (order : Order) (t₀ : Tables) (first end : ℕ) where
